@@ -1,0 +1,4 @@
+pub mod Ages
+pub mod Bounds
+pub mod Refusals
+pub mod Sizes
