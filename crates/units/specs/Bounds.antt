@@ -13,9 +13,9 @@ use Rattle.units.specs.Sizes.{between, pageSize, limits, wait, entries, 
 
 -- the settings are within their limits
 pub record Within (s : Settings) : Type 0 where
-  pub size : pageSize (s .«page_size») ≡ true
-  pub size-least : 512 ≤ s .«page_size»
-  pub size-most : s .«page_size» ≤ 4096
+  pub size : pageSize (s .size) ≡ true
+  pub size-least : 512 ≤ s .size
+  pub size-most : s .size ≤ 4096
   pub slots-least : 1 ≤ s .slots
   pub slots-most : s .slots ≤ 16
   pub lag-least : 3 ≤ s .lag
@@ -50,7 +50,7 @@ size-range (inr (inr (inr e))) = omega arith
 -- the judge, one setting at a time
 module _ (s : Settings) where
   abbrev A : Bool
-  A = pageSize (s .«page_size»)
+  A = pageSize (s .size)
 
   abbrev B : Bool
   B = between 1 16 (s .slots)
@@ -83,7 +83,7 @@ module _ (s : Settings) where
       let d = both (A && B && C) D h in
       let c = both (A && B) C (d .0) in
       let b = both A B (c .0) in
-      let size = size-range (size-cases (s .«page_size») (b .0)) in
+      let size = size-range (size-cases (s .size) (b .0)) in
       let slots = between-facts 1 16 (s .slots) (b .1) in
       let lag = between-facts 3 8 (s .lag) (c .1) in
       let capacity = between-facts 1 65535 (s .capacity) (d .1) in
@@ -125,7 +125,7 @@ module _ (s : Settings) (w : Within s) where
   firstImage-least =
       omega (
         arith,
-        lt-div-mul-add {a = indexEnd s + (s .«page_size» - 1)} {b = s .«page_size»} (omega (arith, w .size-least)),
+        lt-div-mul-add {a = indexEnd s + (s .size - 1)} {b = s .size} (omega (arith, w .size-least)),
         w .size-least,
       )
 
@@ -134,15 +134,15 @@ module _ (s : Settings) (w : Within s) where
   firstImage-most =
       omega (
         arith,
-        div-mul-le-self (indexEnd s + (s .«page_size» - 1)) (s .«page_size»),
+        div-mul-le-self (indexEnd s + (s .size - 1)) (s .size),
         indexEnd-most,
         w .size-least,
         w .size-most,
       )
 
   -- a number of pages, in bytes
-  pub pages-most : (n most : ℕ) → n ≤ most → n * s .«page_size» ≤ most * 4096
-  pages-most n most h = mul-le-mul {n₁ = n} {m₁ = s .«page_size»} {n₂ = most} {m₂ = 4096} h (w .size-most)
+  pub pages-most : (n most : ℕ) → n ≤ most → n * s .size ≤ most * 4096
+  pages-most n most h = mul-le-mul {n₁ = n} {m₁ = s .size} {n₂ = most} {m₂ = 4096} h (w .size-most)
 
   pub sideLength-most : sideLength s ≤ 1120547
   unfolding sideLength

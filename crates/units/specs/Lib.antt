@@ -2,3 +2,4 @@ pub mod Ages
 pub mod Bounds
 pub mod Refusals
 pub mod Sizes
+pub mod Tests

@@ -31,7 +31,7 @@ abbrev pub pageSize : ℕ → Bool
 pageSize P = eqb P 512 || eqb P 1024 || eqb P 2048 || eqb P 4096
 
 unfoldable pub limits : Settings → Bool
-limits s = pageSize (s .«page_size») && between 1 16 (s .slots) && between 3 8 (s .lag) && between 1 65535 (s .capacity)
+limits s = pageSize (s .size) && between 1 16 (s .slots) && between 3 8 (s .lag) && between 1 65535 (s .capacity)
 
 -- the ticks that the ages count by: the maximum lag
 unfoldable pub wait : Settings → ℕ
@@ -50,20 +50,20 @@ unfoldable pub indexEnd : Settings → ℕ
 indexEnd s = headerLength + indexRow * entries s
 
 unfoldable pub firstImage : Settings → ℕ
-firstImage s = (indexEnd s + (s .«page_size» - 1)) / s .«page_size» * s .«page_size»
+firstImage s = (indexEnd s + (s .size - 1)) / s .size * s .size
 
 unfoldable pub imageAt : Settings → Place → ℕ
-imageAt s q = firstImage s + q .0 * s .«page_size»
+imageAt s q = firstImage s + q .0 * s .size
 
 unfoldable pub sideLength : Settings → ℕ
-sideLength s = firstImage s + places s * s .«page_size»
+sideLength s = firstImage s + places s * s .size
 
 -- the recorder's other slices: base, page buffer, ledger (entries, then places)
 unfoldable pub baseLength : Settings → ℕ
-baseLength s = s .capacity * s .«page_size»
+baseLength s = s .capacity * s .size
 
 unfoldable pub bufferLength : Settings → ℕ
-bufferLength s = s .slots * s .«page_size»
+bufferLength s = s .slots * s .size
 
 unfoldable pub placesAt : Settings → ℕ
 placesAt s = entryRow * entries s

@@ -18,7 +18,7 @@ pub struct Place(pub u32);
 // P, S, L and E: bytes of a page, buffer slots, maximum lag in ticks, pages that the base can have.
 #[repr(C)]
 pub struct Settings {
-    pub page_size: u32,
+    pub size: u32,
     pub slots: u32,
     pub lag: u32,
     pub capacity: u32,

@@ -18,7 +18,7 @@ fn between(least: u32, most: u32, n: u32) -> bool
     least <= n && n <= most
 }
 
-fn page_size(p: u32) -> bool
+fn known_size(p: u32) -> bool
     ensures { λ r. ⌜ r ≡ Sizes.pageSize p ⌝ }
 {
     if p == Settings::LEAST_PAGE_SIZE {
@@ -66,7 +66,7 @@ impl Settings {
     pub fn within_limits(self) -> bool
         ensures { λ r. ⌜ r ≡ Sizes.limits self ⌝ }
     {
-        if !page_size(self.page_size) {
+        if !known_size(self.size) {
             return false;
         }
         if !between(Settings::LEAST_SLOTS, Settings::MOST_SLOTS, self.slots) {
@@ -118,7 +118,7 @@ impl Settings {
         requires { ⌜ Sizes.limits self ≡ true ⌝ }
         ensures { λ r. ⌜ (r ≡ Sizes.firstImage self) × (r ≤ 6435) ⌝ }
     {
-        let p = wide(self.page_size);
+        let p = wide(self.size);
         (self.index_end() + (p - 1)) / p * p
     }
 
@@ -127,7 +127,7 @@ impl Settings {
         requires { ⌜ Sizes.limits self ≡ true ⌝ }
         ensures { λ r. ⌜ (r ≡ Sizes.imageAt self place) × (r < 17592186050850) ⌝ }
     {
-        self.first_image() + wide(place.0) * wide(self.page_size)
+        self.first_image() + wide(place.0) * wide(self.size)
     }
 
     // The end of image place M - 1: how long a side file is at least.
@@ -135,21 +135,21 @@ impl Settings {
         requires { ⌜ Sizes.limits self ≡ true ⌝ }
         ensures { λ r. ⌜ (r ≡ Sizes.sideLength self) × (r ≤ 1120547) ⌝ }
     {
-        self.first_image() + self.places() * wide(self.page_size)
+        self.first_image() + self.places() * wide(self.size)
     }
 
     pub fn base_length(self) -> usize
         requires { ⌜ Sizes.limits self ≡ true ⌝ }
         ensures { λ r. ⌜ (r ≡ Sizes.baseLength self) × (r ≤ 268431360) ⌝ }
     {
-        wide(self.capacity) * wide(self.page_size)
+        wide(self.capacity) * wide(self.size)
     }
 
     pub fn buffer_length(self) -> usize
         requires { ⌜ Sizes.limits self ≡ true ⌝ }
         ensures { λ r. ⌜ (r ≡ Sizes.bufferLength self) × (r ≤ 65536) ⌝ }
     {
-        wide(self.slots) * wide(self.page_size)
+        wide(self.slots) * wide(self.size)
     }
 
     // Where the ledger's places begin, behind its entries.

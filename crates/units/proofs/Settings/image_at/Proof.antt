@@ -20,7 +20,7 @@ mul-result : tie.Need-mul-result
 mul-result c =
     let s = c .before .before .before .args .self in
     let q = c .before .before .before .args .place .0 in
-    let e : c .before .wide .result * c .wide2 .result ≡ q * s .«page_size» = cc in
+    let e : c .before .wide .result * c .wide2 .result ≡ q * s .size = cc in
     let m = pages-most s (limits-within s (c .before .before .before .pre)) q 4294967295 (omega arith) in
     record { fits = omega (arith, e, m) }
 
@@ -28,7 +28,7 @@ add-result : tie.Need-add-result
 add-result c =
     let s = c .before .before .before .args .self in
     let q = c .before .before .before .args .place .0 in
-    let e : c .before .wide .result * c .wide2 .result ≡ q * s .«page_size» = cc in
+    let e : c .before .wide .result * c .wide2 .result ≡ q * s .size = cc in
     let m = pages-most s (limits-within s (c .before .before .before .pre)) q 4294967295 (omega arith) in
     record { fits = omega (arith, e, m) }
 
@@ -37,7 +37,7 @@ unfolding imageAt
 returns c =
     let s = c .before .before .before .args .self in
     let q = c .before .before .before .args .place .0 in
-    let e : c .before .wide .result * c .wide2 .result ≡ q * s .«page_size» = cc in
+    let e : c .before .wide .result * c .wide2 .result ≡ q * s .size = cc in
     let m = pages-most s (limits-within s (c .before .before .before .pre)) q 4294967295 (omega arith) in
     (omega (arith, e), omega (arith, e, m))
 

@@ -20,7 +20,7 @@ mul-result : tie.Need-mul-result
 mul-result c =
     let s = c .before .before .before .args .self in
     let w = limits-within s (c .before .before .before .pre) in
-    let e : c .before .places .result * c .wide .result ≡ places s * s .«page_size» = cc in
+    let e : c .before .places .result * c .wide .result ≡ places s * s .size = cc in
     let m = pages-most s w (places s) 272 (places-most s w) in
     record { fits = omega (arith, e, m) }
 
@@ -28,7 +28,7 @@ add-result : tie.Need-add-result
 add-result c =
     let s = c .before .before .before .args .self in
     let w = limits-within s (c .before .before .before .pre) in
-    let e : c .before .places .result * c .wide .result ≡ places s * s .«page_size» = cc in
+    let e : c .before .places .result * c .wide .result ≡ places s * s .size = cc in
     let m = pages-most s w (places s) 272 (places-most s w) in
     record { fits = omega (arith, e, m) }
 
@@ -37,7 +37,7 @@ unfolding sideLength
 returns c =
     let s = c .before .before .before .args .self in
     let w = limits-within s (c .before .before .before .pre) in
-    let e : c .before .places .result * c .wide .result ≡ places s * s .«page_size» = cc in
+    let e : c .before .places .result * c .wide .result ≡ places s * s .size = cc in
     let m = pages-most s w (places s) 272 (places-most s w) in
     (omega (arith, e), omega (arith, e, m))
 

@@ -7,11 +7,11 @@ use borrow.Author.Needs.{needs}
 use Rattle.units.proofs.Settings.within_limits.Statement.{statement}
 use Rattle.units.proofs.Settings.within_limits.Tie as tie
 
-page-size-requires : tie.Need-page-size-requires
-page-size-requires c κs = search needs
+known-size-requires : tie.Need-known-size-requires
+known-size-requires c κs = search needs
 
 returns : tie.Need-returns
-returns c = sym (limits-size _ (sym (c .before .page-size .ensures) ∙ not-true _ (c .if1 .taken)))
+returns c = sym (limits-size _ (sym (c .before .known-size .ensures) ∙ not-true _ (c .if1 .taken)))
 
 between-requires : tie.Need-between-requires
 between-requires c κs = search needs
@@ -31,7 +31,7 @@ between-requires-3 c κs = search needs
 returns-4 : tie.Need-returns-4
 returns-4 c =
     let s = c .before .before .before .before .before .before .before .args .self in
-    let a : pageSize (s .«page_size») ≡ true = sym (c .before .before .before .before .before .before .page-size .ensures) ∙ not-false _ (c .before .before .before .before .before .if1 .left) in
+    let a : pageSize (s .size) ≡ true = sym (c .before .before .before .before .before .before .known-size .ensures) ∙ not-false _ (c .before .before .before .before .before .if1 .left) in
     let b : between 1 16 (s .slots) ≡ true = sym (c .before .before .before .before .between .ensures) ∙ not-false _ (c .before .before .before .if2 .left) in
     let l : between 3 8 (s .lag) ≡ true = sym (c .before .before .between2 .ensures) ∙ not-false _ (c .before .if3 .left) in
     c .between3 .ensures ∙ sym (limits-capacity s a b l)
@@ -40,7 +40,7 @@ pub within-limits-spec : {M : Type 1} → statement M
 within-limits-spec =
     tie.close
     (tie.spec
-    page-size-requires
+    known-size-requires
     returns
     between-requires
     returns-2

@@ -1,6 +1,6 @@
 use borrow.Author.Tests.{eq-eqb, ne-eqb}
-use Rattle.units.proofs.sizes.page_size.Statement.{statement}
-use Rattle.units.proofs.sizes.page_size.Tie as tie
+use Rattle.units.proofs.sizes.known_size.Statement.{statement}
+use Rattle.units.proofs.sizes.known_size.Tie as tie
 
 returns : tie.Need-returns
 returns c = rw (eq-eqb (c .before .args .p) 512 (c .if1 .taken))
@@ -14,5 +14,5 @@ returns-3 c = rw (ne-eqb (c .before .before .before .args .p) 512 (c .before .be
 returns-4 : tie.Need-returns-4
 returns-4 c = rw (ne-eqb (c .before .before .before .args .p) 512 (c .before .before .if1 .left), ne-eqb (c .before .before .before .args .p) 1024 (c .before .if2 .left), ne-eqb (c .before .before .before .args .p) 2048 (c .if3 .left))
 
-pub page-size-spec : {M : Type 1} → statement M
-page-size-spec = tie.close (tie.spec returns returns-2 returns-3 returns-4)
+pub known-size-spec : {M : Type 1} → statement M
+known-size-spec = tie.close (tie.spec returns returns-2 returns-3 returns-4)
