@@ -1,0 +1,4 @@
+pub mod Clause
+pub mod Computed
+pub mod Longer
+pub mod Rows

@@ -1,0 +1,5 @@
+pub mod Calls
+pub mod Close
+pub mod Rules
+pub mod Runs
+pub mod World

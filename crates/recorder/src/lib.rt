@@ -1,0 +1,27 @@
+// The recorder (document 01, "What the recorder does"): its state, and the five calls. The state is this struct by value and
+// the lent ledger; base, side file, page buffer and kind table are lent to each call.
+use slots::Slots;
+use units::Settings;
+use units::Tick;
+
+// In the order of HDF5's page buffering statistics. Each stops at 4,294,967,295.
+#[repr(C)]
+pub struct Counts {
+    pub accesses: u32,
+    pub hits: u32,
+    pub misses: u32,
+    pub evictions: u32,
+    pub bypasses: u32,
+}
+
+// `end` is e, the pages in the file now; `entries` says how many rows of the ledger are entries.
+#[repr(C)]
+pub struct State {
+    pub settings: Settings,
+    pub end: u32,
+    pub closed: Tick,
+    pub entries: u32,
+    pub slots: Slots,
+    pub meta: Counts,
+    pub raw: Counts,
+}
