@@ -1,2 +1,10 @@
+pub mod Aged
+pub mod Closing
+pub mod Due
 pub mod Entries
+pub mod Guarded
+pub mod Laid
+pub mod Ordered
+pub mod Placed
+pub mod Rowed
 pub mod View

@@ -1,4 +1,16 @@
 pub mod Clause
+pub mod Closed
+pub mod ClosedRules
 pub mod Computed
+pub mod Encoded
+pub mod Facts
+pub mod Frames
+pub mod Good
 pub mod Longer
+pub mod Opened
+pub mod Quieted
+pub mod Refused
 pub mod Rows
+pub mod Stored
+pub mod Taken
+pub mod Ways

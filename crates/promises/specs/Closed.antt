@@ -1,0 +1,170 @@
+-- What a close leaves alone, in any world: settings, e, kinds, page buffer, the slots' pages and every length; no slot is
+-- changed any more. And what its lists of entries and its ledger are in the words of the ledger's laws, so that these
+-- can be cited of a world. Assumes nothing.
+use Prim.Native.Nat.{ℕ, _<_, _≤_}
+use mathlib.Core.Path.{_≡_, refl}
+use mathlib.Core.Bool.{true, false}
+use mathlib.Core.Option.{some}
+use native.Mathlib.Omega.{arith}
+use lib.Dec.{leb}
+use lib.ListN.{length}
+use borrow.Author.Tests.{leb-true}
+use Rattle.lists.specs.Bools.{both}
+use Rattle.lists.specs.Scans.{Every}
+use Rattle.octets.specs.Part.{length-lay}
+use Rattle.octets.specs.Rows.{length-row}
+use Rattle.units.specs.Bounds.{places-most}
+use Rattle.units.specs.Sizes.{top, entries}
+use Rattle.sidefile.specs.Decode.{checksum-below}
+use Rattle.sidefile.specs.Encode.{imageSum}
+use Rattle.slots.specs.Moves.{unmark-same, unmark-changed, unmark-sits}
+use Rattle.slots.specs.Sits.{Sits, slot-found, changed-slot}
+use Rattle.slots.specs.Table.{toPage, pageAt, vacant, changedAt, unmarked}
+use Rattle.ledger.specs.Closing.{Closing, newOf, staysOf, laterOf, small-later}
+use Rattle.ledger.specs.Placed.{ledgerClosed, closed-entries}
+use Rattle.ledger.specs.Rowed.{Small}
+use Rattle.recorder.specs.Close.{openTick, changedIn, changes, freePlaces, given, freshEntries, staying, after, stores, ledgerAfter, closed, suffices}
+use Rattle.recorder.specs.World.{World, pageSize, slotCount, waitOf, entriesOf, slotBytes, slotFor, bytesIn}
+use Rattle.promises.specs.Facts.{Ruled, within, end-small, seats}
+use Rattle.promises.specs.Stored.{length-toSide, length-toBase}
+
+module _ (w : World) where
+  -- State and slices.
+
+  pub settings-closed : closed w .state .settings ≡ w .state .settings
+  unfolding closed
+  settings-closed = refl
+
+  pub tick-closed : closed w .state .closed ≡ openTick w
+  unfolding closed
+  tick-closed = refl
+
+  pub end-closed : closed w .state .end ≡ w .state .end
+  unfolding closed
+  end-closed = refl
+
+  pub count-closed : closed w .state .entries ≡ length (after w)
+  unfolding closed
+  count-closed = refl
+
+  pub slots-closed : closed w .state .slots ≡ unmarked (w .state .slots)
+  unfolding closed
+  slots-closed = refl
+
+  pub kinds-closed : closed w .kinds ≡ w .kinds
+  unfolding closed
+  kinds-closed = refl
+
+  pub buffer-closed : closed w .buffer ≡ w .buffer
+  unfolding closed
+  buffer-closed = refl
+
+  pub base-length-closed : length (closed w .base) ≡ length (w .base)
+  unfolding closed
+  base-length-closed = length-toBase (stores w) (w .base)
+
+  pub side-length-closed : length (closed w .side) ≡ length (w .side)
+  unfolding closed
+  side-length-closed = length-toSide (stores w) (w .side)
+
+  pub ledger-length-closed : length (closed w .ledger) ≡ length (w .ledger)
+  unfolding closed
+  ledger-length-closed = length-lay (w .ledger) 0 (ledgerAfter w)
+
+  -- The slots: the same pages with the same bytes, none changed.
+
+  pub still-closed : (i : ℕ) → changedAt (closed w .state .slots) i ≡ false
+  unfolding closed
+  still-closed i = unmark-changed (w .state .slots) i
+
+  pub page-closed : (i : ℕ) → pageAt (closed w .state .slots) i ≡ pageAt (w .state .slots) i
+  unfolding closed
+  page-closed i = unmark-same (w .state .slots) .page i
+
+  pub vacant-closed : (i : ℕ) → vacant (closed w .state .slots) i ≡ vacant (w .state .slots) i
+  unfolding closed
+  vacant-closed i = unmark-same (w .state .slots) .vacancy i
+
+  pub slot-closed : (p : ℕ) → slotFor (closed w) p ≡ slotFor w p
+  unfolding closed slotFor
+  slot-closed p = unmark-same (w .state .slots) .slot (slotCount w) p
+
+  pub slotBytes-closed : (i : ℕ) → slotBytes (closed w) i ≡ slotBytes w i
+  unfolding closed slotBytes
+  slotBytes-closed i = refl
+
+  -- The entries and the ledger, in the ledger's words.
+
+  abbrev pub closingOf : Closing
+  closingOf =
+      record {
+        settings = w .state .settings;
+        closed = w .state .closed;
+        end = w .state .end;
+        changedIn = changedIn w;
+        old = entriesOf w;
+        ledger = w .ledger;
+        sum = λ p. imageSum (toPage p) (bytesIn w p);
+      }
+
+  pub fresh-new : freshEntries w ≡ newOf closingOf
+  unfolding freshEntries given changes freePlaces
+  fresh-new = refl
+
+  pub staying-stays : staying w ≡ staysOf closingOf
+  unfolding staying
+  staying-stays = refl
+
+  pub after-later : after w ≡ laterOf closingOf
+  unfolding after freshEntries given changes freePlaces staying
+  after-later = refl
+
+  pub ledger-closed : closed w .ledger ≡ ledgerClosed (w .state .settings) (waitOf w) (openTick w) (changedIn w) (entriesOf w) (w .ledger) (after w)
+  unfolding closed ledgerAfter
+  ledger-closed = refl
+
+  -- 10 was not answered
+  pub enough : suffices w ≡ true → (length (changes w) ≤ length (freePlaces w)) × (length (after w) ≤ entries (w .state .settings))
+  unfolding suffices
+  enough sf =
+      let b = both (leb (length (changes w)) (length (freePlaces w))) (leb (length (after w)) (entries (w .state .settings))) sf in
+      (leb-true (length (changes w)) (length (freePlaces w)) (b .0), leb-true (length (after w)) (entries (w .state .settings)) (b .1))
+
+-- Slots of a world that follows the rules.
+
+module _ (w : World) (r : Ruled w) where
+  -- a changed page is in a slot
+  pub changed-held : (p : ℕ) → changedIn w p ≡ true → (i : ℕ) × (slotFor w p ≡ some i)
+  unfolding changedIn slotFor
+  changed-held p h = changed-slot (slotCount w) (w .state .slots) p h
+
+  -- a slot's bytes are those of its page, and a page long
+  pub bytes-held : (p i : ℕ) → slotFor w p ≡ some i → bytesIn w p ≡ slotBytes w i
+  unfolding bytesIn
+  bytes-held p i h = rw h
+
+  pub length-held : (p i : ℕ) → slotFor w p ≡ some i → length (bytesIn w p) ≡ pageSize w
+  unfolding slotFor bytesIn slotBytes
+  length-held p i h =
+      rw h (length-row 0 (pageSize w) (w .buffer) (slotCount w) (r .lengths .buffer-long) i (slot-found (slotCount w) (w .state .slots) p i h .0))
+
+  pub sits-closed : Sits (slotCount w) (w .state .end) (closed w .state .slots)
+  unfolding closed
+  sits-closed = unmark-sits (seats w r)
+
+-- The entries after the close, as they are read back.
+
+module _ (w : World) (r : Ruled w) (sf : suffices w ≡ true) (lt : w .state .closed .0 < top) where
+  pub small-closed : Every Small (after w)
+  unfolding imageSum
+  small-closed =
+      rw (after-later w)
+      (small-later (closingOf w) (omega arith) (omega (arith, end-small w r)) (omega (arith, places-most (w .state .settings) (within w r))) sums (r .small))
+    where
+      sums : (p : ℕ) → imageSum (toPage p) (bytesIn w p) ≤ top
+      sums p = omega (arith, checksum-below (bytesIn w p))
+
+  pub entries-closed : entriesOf (closed w) ≡ after w
+  unfolding entriesOf closed ledgerAfter
+  entries-closed =
+      closed-entries (w .state .settings) (waitOf w) (openTick w) (changedIn w) (entriesOf w) (w .ledger) (r .facts .ledger-long) (after w) (enough w sf .1) small-closed

@@ -1,0 +1,250 @@
+-- An accepted open makes a good world, whatever world it is lent: header and index are those of an empty index at tick B, the
+-- ledger has no entry and no retired place, every slot is empty. Assumes nothing.
+use Prim.Native.Nat.{ℕ, zero, suc, _<_, _≤_}
+use mathlib.Core.Path.{_≡_, refl, _∙_, sym, ap, subst}
+use mathlib.Core.Bool.{true, false, not, _&&_}
+use mathlib.Core.List.{List, [], _∷_, _++_}
+use native.Mathlib.Omega.{arith}
+use lib.Dec.{eqb, ltb, leb}
+use lib.ListN.{length, take, getD, replicate, getD-replicate}
+use borrow.Author.Tests.{eq-eqb, ltb-true, leb-true}
+use Rattle.lists.specs.Bools.{both, not-both}
+use Rattle.lists.specs.Scans.{Every, done, allOf}
+use Rattle.octets.specs.Part.{part, length-lay, part-lay-same}
+use Rattle.units.specs.Ages.{tick}
+use Rattle.units.specs.Bounds.{Within, limits-within, firstImage-least}
+use Rattle.units.specs.Sizes.{top, limits, indexEnd, ledgerLength}
+use Rattle.units.specs.Tests.{passes, tested-passes}
+use Rattle.units.specs.declared.Page.{Page}
+use Rattle.units.specs.declared.Settings.{Settings}
+use Rattle.sidefile.specs.Encode.{headerFor, indexBytes}
+use Rattle.sidefile.specs.Lengths.{length-encoded}
+use Rattle.sidefile.specs.Judge.{ascending, apart}
+use Rattle.slots.specs.Sits.{Whole, Sits, sits-back}
+use Rattle.slots.specs.Table.{toPage, noPage, pageAt, vacant, changedAt, uses, noSlots}
+use Rattle.ledger.specs.Placed.{ledgerOpened, opened-entries, opened-free}
+use Rattle.ledger.specs.View.{retired}
+use Rattle.ledger.specs.declared.Entry.{Entry}
+use Rattle.recorder.specs.World.{World, Reply, refuse, accept, setState, zeroState, entriesOf, kindOf}
+use Rattle.recorder.specs.Rules.{longEnough}
+use Rattle.recorder.specs.Calls.{openState, openTests, opened, openReply}
+use Rattle.promises.specs.Facts.{RuleFacts, Lengths, long-facts, KindFacts, Ruled}
+use Rattle.promises.specs.Good.{frontAt, Good}
+use Rattle.promises.specs.Refused.{tested-accepted}
+
+-- kind bytes that are all 0 or 1; past the table's end a kind reads as 0
+kinds-two : (n : ℕ) (ks : List ℕ) → allOf (λ k. ltb k 2) (take n ks) ≡ true → (p : ℕ) → p < n → getD ks p 0 < 2
+unfolding allOf
+kinds-two zero ks h p b = absurd (omega arith)
+kinds-two (suc n) [] h p b = omega arith
+kinds-two (suc n) (k ∷ ks) h zero b = ltb-true k 2 (both _ _ h .0)
+kinds-two (suc n) (k ∷ ks) h (suc p) b = kinds-two n ks (both (ltb k 2) (allOf (λ k. ltb k 2) (take n ks)) h .1) p (omega arith)
+
+-- the table of a new recording
+no-flag : (n i : ℕ) → _≡_ {A = ℕ} (getD (replicate n 0) i 0) 0
+no-flag zero i = refl
+no-flag (suc n) zero = refl
+no-flag (suc n) (suc i) = no-flag n i
+
+none-vacant : (i : ℕ) → i < 16 → vacant noSlots i ≡ true
+unfolding vacant pageAt noSlots
+none-vacant i h = eq-eqb _ noPage (ap (λ (p : Page). p .0) (getD-replicate 16 i (toPage noPage) (toPage 0) h))
+
+none-changed : (i : ℕ) → changedAt noSlots i ≡ false
+unfolding changedAt noSlots
+none-changed i = ap (λ (n : ℕ). not (eqb n 0)) (no-flag 16 i)
+
+whole-none : Whole noSlots
+unfolding noSlots
+whole-none = record { pages = refl; changed = refl; order = refl }
+
+none-sits : (S end : ℕ) → S ≤ 16 → Sits S end noSlots
+unfolding noSlots uses
+none-sits S end few =
+    record {
+      whole = whole-none;
+      few = few;
+      used = omega arith;
+      low = λ i h v. absurd (empty i h v);
+      found = λ i h v. absurd (empty i h v);
+      once = λ i h v. absurd (empty i h v);
+      listed = done;
+      changed = λ i h c. absurd (not-both (changedAt noSlots i) c (none-changed i));
+      spare = λ i k h. (none-vacant i h, none-changed i);
+    }
+  where
+    empty : (i : ℕ) → i < S → vacant noSlots i ≡ false → ⊥
+    empty i h v = not-both (vacant noSlots i) (none-vacant i (omega arith)) v
+
+module _ (s : Settings) (end B : ℕ) (w : World) where
+  -- what an accepted open has tested, and what it is
+  pub record Opens : Type 0 where
+    pub limited : limits s ≡ true
+    pub ended : end ≤ s .capacity
+    pub early : B ≤ top
+    pub lengths : Lengths s w
+    pub ledger-long : ledgerLength s ≤ length (w .ledger)
+    pub two : (p : ℕ) → p < end → kindOf w p < 2
+    pub is : openReply s end B w .world ≡ opened s end B w
+
+  pub open-is : openReply s end B w .number ≡ 0 → Opens
+  unfolding openReply openTests passes allOf
+  open-is h =
+      let t : passes (openTests s end B w) ≡ true =
+      tested-accepted (refuse (setState zeroState w) []) (accept (opened s end B w) []) (λ r. r .number) (λ n. refl) (openTests s end B w) refl h in
+      let a = both (limits s && leb end (s .capacity) && leb B top) _ t in
+      let b = both (longEnough s w && leb (ledgerLength s) (length (w .ledger))) _ (a .1) in
+      let c = both (allOf (λ k. ltb k 2) (take end (w .kinds))) true (b .1) in
+      let l = both (longEnough s w) (leb (ledgerLength s) (length (w .ledger))) (b .0) in
+      let m = both (limits s && leb end (s .capacity)) (leb B top) (a .0) in
+      let n = both (limits s) (leb end (s .capacity)) (m .0) in
+      record {
+        limited = n .0;
+        ended = leb-true end (s .capacity) (n .1);
+        early = leb-true B top (m .1);
+        lengths = long-facts s w (l .0);
+        ledger-long = leb-true (ledgerLength s) (length (w .ledger)) (l .1);
+        two = kinds-two end (w .kinds) (c .0);
+        is = ap (λ (r : Reply). r .world) (tested-passes (refuse (setState zeroState w) []) (accept (opened s end B w) []) (openTests s end B w) t);
+      }
+
+-- The opened world.
+module _ (s : Settings) (end B : ℕ) (w : World) where
+  abbrev W : World
+  W = opened s end B w
+
+  no-entries : entriesOf W ≡ []
+  unfolding opened openState entriesOf
+  no-entries = opened-entries s (w .ledger)
+
+  -- whatever is to hold of every entry holds
+  every-entry : {P : Entry → Type 0} → Every P (entriesOf W)
+  every-entry {P} = subst (Every P) (sym no-entries) done
+
+  all-vacant : (i : ℕ) → i < 16 → vacant (W .state .slots) i ≡ true
+  unfolding opened openState
+  all-vacant i h = none-vacant i h
+
+  none-marked : (i : ℕ) → changedAt (W .state .slots) i ≡ false
+  unfolding opened openState
+  none-marked i = none-changed i
+
+  module _ (o : Opens s end B w) where
+    sized : Within s
+    sized = limits-within s (o .limited)
+
+    opened-rules : RuleFacts W
+    unfolding opened openState ascending apart
+    opened-rules =
+        record {
+          limited = o .limited;
+          ledger-long = rw (length-lay (w .ledger) 0 (replicate (ledgerLength s) 0)) (o .ledger-long);
+          ended = o .ended;
+          counted = omega arith;
+          slots = sits-back (none-sits (s .slots) end (sized .slots-most));
+          ascends = rw no-entries;
+          each = every-entry;
+          alone = rw no-entries;
+          rested = λ q h r. absurd (not-both (retired s (ledgerOpened s (w .ledger)) q) r (opened-free s (w .ledger) (o .ledger-long) q h));
+        }
+
+    opened-lengths : Lengths s W
+    unfolding opened openState
+    opened-lengths =
+        let l = length-lay (w .side) 0 (headerFor s (tick B) end [] ++ indexBytes s []) in
+        record {
+          base-long = o .lengths .base-long;
+          side-long = omega (arith, o .lengths .side-long);
+          buffer-long = o .lengths .buffer-long;
+          kinds-long = o .lengths .kinds-long;
+        }
+
+    opened-kinds : KindFacts W
+    unfolding opened openState
+    opened-kinds =
+        record {
+          slot-kinds = λ i h v. absurd (not-both (vacant noSlots i) (none-vacant i (omega (arith, sized .slots-most))) v);
+          entry-kinds = every-entry;
+        }
+
+    pub ruled-opened : Ruled W
+    unfolding opened openState
+    ruled-opened =
+        record {
+          whole = whole-none;
+          tick = o .early;
+          small = every-entry;
+          facts = opened-rules;
+          lengths = opened-lengths;
+          kinds = opened-kinds;
+        }
+
+    opened-front : part (W .side) 0 (indexEnd s) ≡ frontAt W end
+    unfolding opened openState
+    opened-front =
+        let F = headerFor s (tick B) end [] ++ indexBytes s [] in
+        let l : length F ≡ indexEnd s = length-encoded s (tick B) end [] (omega arith) in
+        rw (no-entries, ← l) (part-lay-same (w .side) 0 F (omega (arith, o .lengths .side-long, firstImage-least s sized)))
+
+    pub good-opened : Good W
+    unfolding opened openState
+    good-opened =
+        record {
+          ruled = ruled-opened;
+          two = o .two;
+          ending = end;
+          ended = omega arith;
+          front = opened-front;
+          early = every-entry;
+          sums = every-entry;
+          slots = λ i h v c. absurd (not-both (vacant noSlots i) (none-vacant i (omega (arith, sized .slots-most))) v);
+          written = every-entry;
+          newer = λ p h k m. absurd (omega arith);
+        }
+
+-- The world of an accepted open.
+module _ (s : Settings) (end B : ℕ) (w : World) (h : openReply s end B w .number ≡ 0) where
+  abbrev after : World
+  after = openReply s end B w .world
+
+  opens : Opens s end B w
+  opens = open-is s end B w h
+
+  same : after ≡ opened s end B w
+  same = opens .is
+
+  pub ruled-open : Ruled after
+  ruled-open = subst Ruled (sym same) (ruled-opened s end B w opens)
+
+  pub good-open : Good after
+  good-open = subst Good (sym same) (good-opened s end B w opens)
+
+  pub open-ending : good-open .ending ≡ end
+  unfolding good-open good-opened
+  open-ending = refl
+
+  pub open-entries : entriesOf after ≡ []
+  open-entries = ap entriesOf same ∙ no-entries s end B w
+
+  pub open-vacant : (i : ℕ) → i < 16 → vacant (after .state .slots) i ≡ true
+  open-vacant i k = ap (λ (v : World). vacant (v .state .slots) i) same ∙ all-vacant s end B w i k
+
+  pub open-unchanged : (i : ℕ) → changedAt (after .state .slots) i ≡ false
+  open-unchanged i = ap (λ (v : World). changedAt (v .state .slots) i) same ∙ none-marked s end B w i
+
+  -- what it is: the state of an open, and the lent files but for the side file's front and the ledger
+  pub open-state : after .state ≡ openState s end B
+  unfolding opened
+  open-state = ap (λ (v : World). v .state) same
+
+  pub open-base : after .base ≡ w .base
+  unfolding opened
+  open-base = ap (λ (v : World). v .base) same
+
+  pub open-buffer : after .buffer ≡ w .buffer
+  unfolding opened
+  open-buffer = ap (λ (v : World). v .buffer) same
+
+  pub open-kinds : after .kinds ≡ w .kinds
+  unfolding opened
+  open-kinds = ap (λ (v : World). v .kinds) same
