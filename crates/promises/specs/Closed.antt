@@ -1,8 +1,8 @@
 -- What a close leaves alone, in any world: settings, e, kinds, page buffer, the slots' pages and every length; no slot is
--- changed any more. And what its lists of entries and its ledger are in the words of the ledger's laws, so that these
--- can be cited of a world. Assumes nothing.
+-- changed any more. And what its lists of entries are in the words of the ledger's laws, so that these can be cited of a
+-- world; and that they are read back from its ledger. Assumes nothing.
 use Prim.Native.Nat.{ℕ, _<_, _≤_}
-use mathlib.Core.Path.{_≡_, refl}
+use mathlib.Core.Path.{_≡_, refl, _∙_, sym, ap}
 use mathlib.Core.Bool.{true, false}
 use mathlib.Core.Option.{some}
 use native.Mathlib.Omega.{arith}
@@ -18,13 +18,14 @@ use Rattle.units.specs.Sizes.{top, entries}
 use Rattle.sidefile.specs.Decode.{checksum-below}
 use Rattle.sidefile.specs.Encode.{imageSum}
 use Rattle.slots.specs.Moves.{unmark-same, unmark-changed, unmark-sits}
-use Rattle.slots.specs.Sits.{Sits, slot-found, changed-slot}
+use Rattle.slots.specs.Sits.{Sits, slot-found, slot-occupied, changed-slot}
 use Rattle.slots.specs.Table.{toPage, pageAt, vacant, changedAt, unmarked}
-use Rattle.ledger.specs.Closing.{Closing, newOf, staysOf, laterOf, small-later}
-use Rattle.ledger.specs.Placed.{ledgerClosed, closed-entries}
+use Rattle.ledger.specs.Closing.{Closing, newOf, laterOf, small-later}
+use Rattle.ledger.specs.Due.{dueOf}
+use Rattle.ledger.specs.Guarded.{later-read}
 use Rattle.ledger.specs.Rowed.{Small}
-use Rattle.recorder.specs.Close.{openTick, changedIn, changes, freePlaces, given, freshEntries, staying, after, stores, ledgerAfter, closed, suffices}
-use Rattle.recorder.specs.World.{World, pageSize, slotCount, waitOf, entriesOf, slotBytes, slotFor, bytesIn}
+use Rattle.recorder.specs.Close.{openTick, changedIn, changes, freePlaces, given, freshEntries, staying, after, dueEntries, stores, ledgerAfter, closed, suffices}
+use Rattle.recorder.specs.World.{World, pageSize, slotCount, entriesOf, kindOf, slotBytes, slotFor, bytesIn}
 use Rattle.promises.specs.Facts.{Ruled, within, end-small, seats}
 use Rattle.promises.specs.Stored.{length-toSide, length-toBase}
 
@@ -93,7 +94,7 @@ module _ (w : World) where
   unfolding closed slotBytes
   slotBytes-closed i = refl
 
-  -- The entries and the ledger, in the ledger's words.
+  -- The entries, in the ledger's words.
 
   abbrev pub closingOf : Closing
   closingOf =
@@ -111,17 +112,13 @@ module _ (w : World) where
   unfolding freshEntries given changes freePlaces
   fresh-new = refl
 
-  pub staying-stays : staying w ≡ staysOf closingOf
-  unfolding staying
-  staying-stays = refl
-
   pub after-later : after w ≡ laterOf closingOf
   unfolding after freshEntries given changes freePlaces staying
   after-later = refl
 
-  pub ledger-closed : closed w .ledger ≡ ledgerClosed (w .state .settings) (waitOf w) (openTick w) (changedIn w) (entriesOf w) (w .ledger) (after w)
-  unfolding closed ledgerAfter
-  ledger-closed = refl
+  pub due-of : dueEntries w ≡ dueOf closingOf
+  unfolding dueEntries after freshEntries given changes freePlaces staying
+  due-of = refl
 
   -- 10 was not answered
   pub enough : suffices w ≡ true → (length (changes w) ≤ length (freePlaces w)) × (length (after w) ≤ entries (w .state .settings))
@@ -148,6 +145,13 @@ module _ (w : World) (r : Ruled w) where
   length-held p i h =
       rw h (length-row 0 (pageSize w) (w .buffer) (slotCount w) (r .lengths .buffer-long) i (slot-found (slotCount w) (w .state .slots) p i h .0))
 
+  -- a page in a slot is a metadata page
+  pub held-kind : (p i : ℕ) → p < w .state .end → slotFor w p ≡ some i → kindOf w p ≡ 0
+  unfolding slotFor
+  held-kind p i b h =
+      let f = slot-found (slotCount w) (w .state .slots) p i h in
+      ap (kindOf w) (sym (f .1)) ∙ r .kinds .slot-kinds i (f .0) (slot-occupied (slotCount w) (w .state .slots) p i (omega (arith, end-small w r)) h)
+
   pub sits-closed : Sits (slotCount w) (w .state .end) (closed w .state .slots)
   unfolding closed
   sits-closed = unmark-sits (seats w r)
@@ -165,6 +169,5 @@ module _ (w : World) (r : Ruled w) (sf : suffices w ≡ true) (lt : w .state .cl
       sums p = omega (arith, checksum-below (bytesIn w p))
 
   pub entries-closed : entriesOf (closed w) ≡ after w
-  unfolding entriesOf closed ledgerAfter
-  entries-closed =
-      closed-entries (w .state .settings) (waitOf w) (openTick w) (changedIn w) (entriesOf w) (w .ledger) (r .facts .ledger-long) (after w) (enough w sf .1) small-closed
+  unfolding entriesOf closed ledgerAfter after freshEntries given changes freePlaces staying
+  entries-closed = later-read (closingOf w) (r .facts .ledger-long) (enough w sf .1) small-closed

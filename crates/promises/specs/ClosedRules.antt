@@ -1,16 +1,13 @@
 -- A close from any world that follows the state rules, forged ones among them, leaves one that follows them; the side file
 -- then begins with the header and index of the tick closed, and says only what the judge accepts. Assumes nothing.
 use Prim.Native.Nat.{ℕ, _<_, _≤_}
-use mathlib.Core.Path.{_≡_, refl, _∙_, sym, ap, subst}
-use mathlib.Core.Bool.{Bool, true, false, _&&_}
+use mathlib.Core.Path.{_≡_, _∙_, sym, ap, subst}
+use mathlib.Core.Bool.{true, false}
 use mathlib.Core.List.{List, _++_, map}
 use mathlib.Core.Logic.{_⊎_, inl, inr}
-use mathlib.Core.Option.{some}
 use native.Mathlib.Omega.{arith}
 use lib.ListN.{length, length-map}
-use borrow.Author.Tests.{eqb-true}
-use Rattle.lists.specs.Bools.{and-left}
-use Rattle.lists.specs.Scans.{Every, every-map, every-two, anyOf, any-none, none-any}
+use Rattle.lists.specs.Scans.{Every, every-map, every-two}
 use Rattle.octets.specs.Part.{part, lay, part-lay-same}
 use Rattle.units.specs.Bounds.{firstImage-least}
 use Rattle.units.specs.Sizes.{top, places, indexEnd, firstImage}
@@ -20,83 +17,66 @@ use Rattle.sidefile.specs.Decode.{Encodes}
 use Rattle.sidefile.specs.Encode.{headerFor, indexBytes}
 use Rattle.sidefile.specs.Judge.{ascending, apart}
 use Rattle.sidefile.specs.Lengths.{length-encoded}
-use Rattle.slots.specs.Sits.{sits-back, slot-found, slot-occupied}
+use Rattle.slots.specs.Sits.{sits-back}
 use Rattle.ledger.specs.Aged.{owed-before}
-use Rattle.ledger.specs.Closing.{IsNew, IsStay, gives, free-place, asc-later, apart-later, every-later, later-facts, ages-later}
-use Rattle.ledger.specs.Entries.{pageOf, placeOf, at}
-use Rattle.ledger.specs.Placed.{givenUp, resting, closed-frees, closed-since}
+use Rattle.ledger.specs.Closing.{IsNew, IsStay, asc-later, apart-later, every-later, later-facts, ages-later}
+use Rattle.ledger.specs.Entries.{pageOf, placeOf}
+use Rattle.ledger.specs.Guarded.{unretired-later}
+use Rattle.ledger.specs.Laid.{length-layEach}
+use Rattle.ledger.specs.Placed.{closed-since}
 use Rattle.ledger.specs.Rowed.{Small}
 use Rattle.ledger.specs.View.{indexed, retired, retiredAt}
 use Rattle.ledger.specs.declared.Entry.{Entry}
-use Rattle.recorder.specs.Close.{openTick, changedIn, after, ledgerAfter, closed, suffices}
-use Rattle.recorder.specs.World.{World, slotCount, waitOf, entriesOf, kindOf, slotFor}
-use Rattle.promises.specs.Closed.{base-length-closed, side-length-closed, ledger-length-closed, page-closed, vacant-closed, slot-closed, closingOf, after-later, enough, changed-held, sits-closed, small-closed, entries-closed}
+use Rattle.recorder.specs.Close.{openTick, changedIn, changes, freePlaces, given, freshEntries, staying, after, ledgerAfter, closed, suffices}
+use Rattle.recorder.specs.World.{World, waitOf, entriesOf, kindOf}
+use Rattle.promises.specs.Closed.{base-length-closed, side-length-closed, ledger-length-closed, page-closed, vacant-closed, slot-closed, closingOf, after-later, enough, changed-held, held-kind, sits-closed, small-closed, entries-closed}
 use Rattle.promises.specs.Encoded.{encodes-ruled}
 use Rattle.promises.specs.Facts.{EntryFacts, RuleFacts, Ruled, within, end-small}
 use Rattle.promises.specs.Good.{frontAt}
-use Rattle.promises.specs.Stored.{imaged, frontAfter, length-imaged, side-stored}
-
-at-place : (q : ℕ) (e : Entry) → at q e ≡ true → placeOf e ≡ q
-unfolding at
-at-place q e h = eqb-true (placeOf e) q h
-
-none-both : (t u : Entry → Bool) (l : List Entry) → anyOf t l ≡ false → anyOf (λ e. t e && u e) l ≡ false
-none-both t u l h = none-any (λ e. t e && u e) l (every-map (λ e k. and-left (t e) (u e) k) l (any-none t l h))
+use Rattle.promises.specs.Stored.{imageStart, heldBytes, imaged, frontAfter, side-stored}
 
 module _ (w : World) (r : Ruled w) (sf : suffices w ≡ true) (lt : w .state .closed .0 < top) where
   -- The entries, one by one.
 
-  pub after-facts : Every (λ e. IsNew (closingOf w) e ⊎ (IsStay (closingOf w) e × EntryFacts w e)) (after w)
+  after-facts : Every (λ e. IsNew (closingOf w) e ⊎ (IsStay (closingOf w) e × EntryFacts w e)) (after w)
   after-facts = rw (after-later w) (later-facts (closingOf w) (r .facts .ascends) (r .facts .alone) (r .facts .each))
 
   ages-after : Every (λ e. (e .entered .0 ≤ e .changed .0) × (e .changed .0 ≤ openTick w .0)) (after w)
   ages-after = rw (after-later w) (ages-later (closingOf w) (every-map (λ e f. (f .entered-first, f .changed-before)) (entriesOf w) (r .facts .each)))
 
+  unretired-after : Every (λ e. retired (w .state .settings) (closed w .ledger) (placeOf e) ≡ false) (after w)
+  unfolding closed ledgerAfter after freshEntries given changes freePlaces staying
+  unretired-after =
+      unretired-later (closingOf w) (r .facts .ledger-long) (enough w sf .1) (r .facts .ascends) (r .facts .alone)
+      (every-map (λ e f. (f .place-below, f .not-retired)) (entriesOf w) (r .facts .each))
+
   each-after : Every (EntryFacts (closed w)) (after w)
-  unfolding closed ledgerAfter
-  each-after = every-map one (after w) (every-two (after w) after-facts ages-after)
+  unfolding closed
+  each-after = every-map one (after w) (every-two (after w) after-facts (every-two (after w) ages-after unretired-after))
     where
-      -- a place that no entry gives up and that is not resting is not retired afterwards
-      frees : (q : ℕ) → q < places (w .state .settings) → givenUp (waitOf w) (openTick w) (changedIn w) (entriesOf w) q ≡ false
-          → resting (w .state .settings) (waitOf w) (openTick w) (w .ledger) q ≡ false → retired (w .state .settings) (closed w .ledger) q ≡ false
-      frees q h a b =
-          closed-frees (w .state .settings) (waitOf w) (openTick w) (changedIn w) (entriesOf w) (w .ledger) (r .facts .ledger-long) (after w) (enough w sf .1) q h a b
-
-      alone : (e : Entry) → gives (closingOf w) e ≡ false → (y : Entry) → (placeOf y ≡ placeOf e → y ≡ e) → (at (placeOf e) y && gives (closingOf w) y) ≡ false
-      alone e s y f = go (at (placeOf e) y) refl
-        where
-          go : (b : Bool) → at (placeOf e) y ≡ b → (b && gives (closingOf w) y) ≡ false
-          go false z = refl
-          go true z = ap (gives (closingOf w)) (f (at-place (placeOf e) y z)) ∙ s
-
-      one : (e : Entry) → (IsNew (closingOf w) e ⊎ (IsStay (closingOf w) e × EntryFacts w e)) × ((e .entered .0 ≤ e .changed .0) × (e .changed .0 ≤ openTick w .0))
+      one : (e : Entry)
+          → (IsNew (closingOf w) e ⊎ (IsStay (closingOf w) e × EntryFacts w e))
+          × (((e .entered .0 ≤ e .changed .0) × (e .changed .0 ≤ openTick w .0)) × (retired (w .state .settings) (closed w .ledger) (placeOf e) ≡ false))
           → EntryFacts (closed w) e
-      one e h = go (h .0)
-        where
-          go : IsNew (closingOf w) e ⊎ (IsStay (closingOf w) e × EntryFacts w e) → EntryFacts (closed w) e
-          go (inl n) =
-              let f = free-place (closingOf w) (placeOf e) (n .may) in
-              let i = changed-held w r (pageOf e) (n .is-changed) in
-              record {
-                page-below = n .page-below;
-                entered-first = h .1 .0;
-                changed-before = h .1 .1;
-                owed-held = λ o. (i .0, slot-closed w (pageOf e) ∙ i .1);
-                place-below = n .place-below;
-                not-retired = frees (placeOf e) (n .place-below) (none-both (at (placeOf e)) (gives (closingOf w)) (entriesOf w) (f .0)) (f .1);
-              }
-          go (inr (s, f)) =
-              record {
-                page-below = f .page-below;
-                entered-first = h .1 .0;
-                changed-before = h .1 .1;
-                owed-held = λ o. let i = f .owed-held (owed-before (waitOf w) e (w .state .closed .0) o) in (i .0, slot-closed w (pageOf e) ∙ i .1);
-                place-below = f .place-below;
-                not-retired =
-                    frees (placeOf e) (f .place-below)
-                    (none-any (λ y. at (placeOf e) y && gives (closingOf w) y) (entriesOf w) (every-map (alone e (s .stays)) (entriesOf w) (s .alone)))
-                    (and-left (retired (w .state .settings) (w .ledger) (placeOf e)) _ (f .not-retired));
-              }
+      one e (inl n, (a, f)) =
+          let i = changed-held w r (pageOf e) (n .is-changed) in
+          record {
+            page-below = n .page-below;
+            entered-first = a .0;
+            changed-before = a .1;
+            owed-held = λ o. (i .0, slot-closed w (pageOf e) ∙ i .1);
+            place-below = n .place-below;
+            not-retired = f;
+          }
+      one e (inr (s, b), (a, f)) =
+          record {
+            page-below = b .page-below;
+            entered-first = a .0;
+            changed-before = a .1;
+            owed-held = λ o. let i = b .owed-held (owed-before (waitOf w) e (w .state .closed .0) o) in (i .0, slot-closed w (pageOf e) ∙ i .1);
+            place-below = b .place-below;
+            not-retired = f;
+          }
 
   -- The rules.
 
@@ -133,17 +113,10 @@ module _ (w : World) (r : Ruled w) (sf : suffices w ≡ true) (lt : w .state .cl
         rested = rested-after;
       }
 
-  -- a page in a slot is a metadata page
-  pub held-kind : (p i : ℕ) → p < w .state .end → slotFor w p ≡ some i → kindOf w p ≡ 0
-  unfolding slotFor
-  held-kind p i b h =
-      let f = slot-found (slotCount w) (w .state .slots) p i h in
-      ap (kindOf w) (sym (f .1)) ∙ r .kinds .slot-kinds i (f .0) (slot-occupied (slotCount w) (w .state .slots) p i (omega (arith, end-small w r)) h)
-
   kinds-after : Every (λ e. kindOf w (pageOf e) ≡ 0) (after w)
   kinds-after =
       rw (after-later w)
-      (every-later (closingOf w) (λ e n. let i = changed-held w r (pageOf e) (n .is-changed) in held-kind (pageOf e) (i .0) (n .page-below) (i .1)) (r .kinds .entry-kinds))
+      (every-later (closingOf w) (λ e n. let i = changed-held w r (pageOf e) (n .is-changed) in held-kind w r (pageOf e) (i .0) (n .page-below) (i .1)) (r .kinds .entry-kinds))
 
   pub ruled-closed : Ruled (closed w)
   unfolding closed
@@ -185,7 +158,7 @@ module _ (w : World) (r : Ruled w) (sf : suffices w ≡ true) (lt : w .state .cl
   front-closed =
       ap (λ (xs : List ℕ). part xs 0 (indexEnd (w .state .settings))) (side-stored w)
       ∙ ap (λ (n : ℕ). part (lay (imaged w) 0 (frontAfter w)) 0 n) (sym length-frontAfter)
-      ∙ part-lay-same (imaged w) 0 (frontAfter w) (omega (arith, front-before, length-imaged w, r .lengths .side-long))
+      ∙ part-lay-same (imaged w) 0 (frontAfter w) (omega (arith, front-before, length-layEach (imageStart w) (heldBytes w) (freshEntries w) (w .side), r .lengths .side-long))
       ∙ ap
       (λ (es : List Entry).
       headerFor (w .state .settings) (openTick w) (w .state .end) (map indexed es) ++ indexBytes (w .state .settings) (map indexed es))

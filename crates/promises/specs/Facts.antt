@@ -150,13 +150,17 @@ pub record Lengths (s : Settings) (w : World) : Type 0 where
 pub long-facts : (s : Settings) (w : World) → longEnough s w ≡ true → Lengths s w
 unfolding longEnough baseLength sideLength bufferLength
 long-facts s w h =
-    let k = both _ _ h in
-    let b = both _ _ (k .0) in
-    let i = both _ _ (b .0) in
+    let B : Bool = leb (s .capacity * s .size) (length (w .base)) in
+    let S : Bool = leb (firstImage s + places s * s .size) (length (w .side)) in
+    let P : Bool = leb (s .slots * s .size) (length (w .buffer)) in
+    let K : Bool = leb (s .capacity) (length (w .kinds)) in
+    let k = both (B && S && P) K h in
+    let p = both (B && S) P (k .0) in
+    let b = both B S (p .0) in
     record {
-      base-long = omega (arith, leb-true (s .capacity * s .size) (length (w .base)) (i .0));
-      side-long = leb-true (firstImage s + places s * s .size) (length (w .side)) (i .1);
-      buffer-long = omega (arith, leb-true (s .slots * s .size) (length (w .buffer)) (b .1));
+      base-long = omega (arith, leb-true (s .capacity * s .size) (length (w .base)) (b .0));
+      side-long = leb-true (firstImage s + places s * s .size) (length (w .side)) (b .1);
+      buffer-long = omega (arith, leb-true (s .slots * s .size) (length (w .buffer)) (p .1));
       kinds-long = leb-true (s .capacity) (length (w .kinds)) (k .1);
     }
 

@@ -7,15 +7,21 @@ use native.Mathlib.Omega.{arith}
 use native.Mathlib.Decide.{ℕ-discrete, decLt}
 use lib.ListN.{length, getD, set, length-set, length-replicate}
 use lib.Seq.{getD-set-same, getD-set-other}
-use Rattle.octets.specs.Part.{part, lay, length-lay, part-lay-in, part-lay-before, part-lay-after}
+use Rattle.octets.specs.Part.{part, lay, length-lay, part-part, part-lay-in, part-lay-before, part-lay-after}
 use Rattle.octets.specs.Rows.{row, page, row-in, row-laid, row-other}
 use Rattle.slots.specs.declared.Slots.{Slots}
 use Rattle.recorder.specs.World.{World, setEnd, setSlots, setMeta, setRaw, setState, setBase, setBuffer, setKinds, pageSize, kindOf, baseBytes}
-use Rattle.recorder.specs.Calls.{laidIn, zeroPage}
+use Rattle.recorder.specs.Calls.{spanIn, laidIn, zeroPage}
 use Rattle.recorder.specs.declared.Counts.{Counts}
 use Rattle.promises.specs.Facts.{Ruled}
 use Rattle.promises.specs.Good.{Quiet}
 use Rattle.promises.specs.Ways.{Span}
+
+-- a span read inside page k of a file
+pub span-read : (P k offset : ℕ) (xs : List ℕ) (n : ℕ) → offset + n ≤ P → part (page P k xs) offset n ≡ spanIn P xs k offset n
+unfolding row
+span-read P k offset xs n h =
+    part-part xs (0 + k * P) P offset n h ∙ ap (λ (a : ℕ). part xs a n) {x = 0 + k * P + offset} {y = k * P + offset} (omega arith)
 
 -- a span laid inside page k of a file: that page has it laid over, every other one is as it was
 module _ (P k offset : ℕ) (xs ys : List ℕ) where
@@ -55,6 +61,10 @@ pub record Framed (w : World) (end : ℕ) (base kinds : List ℕ) : Type 0 where
   pub two : ((p : ℕ) → p < w .state .end → kindOf w p < 2) → (p : ℕ) → p < end → getD kinds p 0 < 2
   pub pages : (p : ℕ) → p < w .state .end → kindOf w p ≡ 0 → page (pageSize w) p base ≡ baseBytes w p
   pub base-length : length base ≡ length (w .base)
+
+pub quiet-same : (w : World) → Quiet w w
+quiet-same w =
+    record { settings = refl; closed = refl; count = refl; ledger = refl; side = refl; end = omega arith; kinds = λ p b. refl; pages = λ p b m. refl; base-length = refl }
 
 pub quiet-framed : (w : World) (end : ℕ) (t : Slots) (meta raw : Counts) (base buffer kinds : List ℕ) → Framed w end base kinds
     → Quiet w (next w end t meta raw base buffer kinds)

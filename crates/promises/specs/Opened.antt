@@ -2,12 +2,12 @@
 -- ledger has no entry and no retired place, every slot is empty. Assumes nothing.
 use Prim.Native.Nat.{ℕ, zero, suc, _<_, _≤_}
 use mathlib.Core.Path.{_≡_, refl, _∙_, sym, ap, subst}
-use mathlib.Core.Bool.{true, false, not, _&&_}
+use mathlib.Core.Bool.{true, false, _&&_}
 use mathlib.Core.List.{List, [], _∷_, _++_}
 use native.Mathlib.Omega.{arith}
-use lib.Dec.{eqb, ltb, leb}
-use lib.ListN.{length, take, getD, replicate, getD-replicate}
-use borrow.Author.Tests.{eq-eqb, ltb-true, leb-true}
+use lib.Dec.{ltb, leb}
+use lib.ListN.{length, take, getD, replicate}
+use borrow.Author.Tests.{ltb-true, leb-true}
 use Rattle.lists.specs.Bools.{both, not-both}
 use Rattle.lists.specs.Scans.{Every, done, allOf}
 use Rattle.octets.specs.Part.{part, length-lay, part-lay-same}
@@ -15,13 +15,13 @@ use Rattle.units.specs.Ages.{tick}
 use Rattle.units.specs.Bounds.{Within, limits-within, firstImage-least}
 use Rattle.units.specs.Sizes.{top, limits, indexEnd, ledgerLength}
 use Rattle.units.specs.Tests.{passes, tested-passes}
-use Rattle.units.specs.declared.Page.{Page}
 use Rattle.units.specs.declared.Settings.{Settings}
 use Rattle.sidefile.specs.Encode.{headerFor, indexBytes}
 use Rattle.sidefile.specs.Lengths.{length-encoded}
 use Rattle.sidefile.specs.Judge.{ascending, apart}
-use Rattle.slots.specs.Sits.{Whole, Sits, sits-back}
-use Rattle.slots.specs.Table.{toPage, noPage, pageAt, vacant, changedAt, uses, noSlots}
+use Rattle.slots.specs.Moves.{no-slots-vacant, no-slots-changed, no-slots-rules}
+use Rattle.slots.specs.Sits.{Whole}
+use Rattle.slots.specs.Table.{vacant, changedAt, noSlots}
 use Rattle.ledger.specs.Placed.{ledgerOpened, opened-entries, opened-free}
 use Rattle.ledger.specs.View.{retired}
 use Rattle.ledger.specs.declared.Entry.{Entry}
@@ -40,41 +40,10 @@ kinds-two (suc n) [] h p b = omega arith
 kinds-two (suc n) (k ∷ ks) h zero b = ltb-true k 2 (both _ _ h .0)
 kinds-two (suc n) (k ∷ ks) h (suc p) b = kinds-two n ks (both (ltb k 2) (allOf (λ k. ltb k 2) (take n ks)) h .1) p (omega arith)
 
--- the table of a new recording
-no-flag : (n i : ℕ) → _≡_ {A = ℕ} (getD (replicate n 0) i 0) 0
-no-flag zero i = refl
-no-flag (suc n) zero = refl
-no-flag (suc n) (suc i) = no-flag n i
-
-none-vacant : (i : ℕ) → i < 16 → vacant noSlots i ≡ true
-unfolding vacant pageAt noSlots
-none-vacant i h = eq-eqb _ noPage (ap (λ (p : Page). p .0) (getD-replicate 16 i (toPage noPage) (toPage 0) h))
-
-none-changed : (i : ℕ) → changedAt noSlots i ≡ false
-unfolding changedAt noSlots
-none-changed i = ap (λ (n : ℕ). not (eqb n 0)) (no-flag 16 i)
-
+-- the arrays of a new recording
 whole-none : Whole noSlots
 unfolding noSlots
 whole-none = record { pages = refl; changed = refl; order = refl }
-
-none-sits : (S end : ℕ) → S ≤ 16 → Sits S end noSlots
-unfolding noSlots uses
-none-sits S end few =
-    record {
-      whole = whole-none;
-      few = few;
-      used = omega arith;
-      low = λ i h v. absurd (empty i h v);
-      found = λ i h v. absurd (empty i h v);
-      once = λ i h v. absurd (empty i h v);
-      listed = done;
-      changed = λ i h c. absurd (not-both (changedAt noSlots i) c (none-changed i));
-      spare = λ i k h. (none-vacant i h, none-changed i);
-    }
-  where
-    empty : (i : ℕ) → i < S → vacant noSlots i ≡ false → ⊥
-    empty i h v = not-both (vacant noSlots i) (none-vacant i (omega arith)) v
 
 module _ (s : Settings) (end B : ℕ) (w : World) where
   -- what an accepted open has tested, and what it is
@@ -123,11 +92,11 @@ module _ (s : Settings) (end B : ℕ) (w : World) where
 
   all-vacant : (i : ℕ) → i < 16 → vacant (W .state .slots) i ≡ true
   unfolding opened openState
-  all-vacant i h = none-vacant i h
+  all-vacant i h = no-slots-vacant i h
 
   none-marked : (i : ℕ) → changedAt (W .state .slots) i ≡ false
   unfolding opened openState
-  none-marked i = none-changed i
+  none-marked i = no-slots-changed i
 
   module _ (o : Opens s end B w) where
     sized : Within s
@@ -141,7 +110,7 @@ module _ (s : Settings) (end B : ℕ) (w : World) where
           ledger-long = rw (length-lay (w .ledger) 0 (replicate (ledgerLength s) 0)) (o .ledger-long);
           ended = o .ended;
           counted = omega arith;
-          slots = sits-back (none-sits (s .slots) end (sized .slots-most));
+          slots = no-slots-rules (s .slots) end (sized .slots-most);
           ascends = rw no-entries;
           each = every-entry;
           alone = rw no-entries;
@@ -163,7 +132,7 @@ module _ (s : Settings) (end B : ℕ) (w : World) where
     unfolding opened openState
     opened-kinds =
         record {
-          slot-kinds = λ i h v. absurd (not-both (vacant noSlots i) (none-vacant i (omega (arith, sized .slots-most))) v);
+          slot-kinds = λ i h v. absurd (not-both (vacant noSlots i) (no-slots-vacant i (omega (arith, sized .slots-most))) v);
           entry-kinds = every-entry;
         }
 
@@ -197,7 +166,7 @@ module _ (s : Settings) (end B : ℕ) (w : World) where
           front = opened-front;
           early = every-entry;
           sums = every-entry;
-          slots = λ i h v c. absurd (not-both (vacant noSlots i) (none-vacant i (omega (arith, sized .slots-most))) v);
+          slots = λ i h v c. absurd (not-both (vacant noSlots i) (no-slots-vacant i (omega (arith, sized .slots-most))) v);
           written = every-entry;
           newer = λ p h k m. absurd (omega arith);
         }

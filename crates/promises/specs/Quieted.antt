@@ -1,26 +1,25 @@
 -- A read, a write or a grow is quiet: it leaves the index, the side file and the metadata pages of the base alone, from any
 -- world that passes the rules. And what a close still has, it has after a quiet call. Assumes nothing.
-use Prim.Native.Nat.{ℕ, _+_, _*_, _<_}
-use mathlib.Core.Path.{_≡_, refl, _∙_, sym, ap, subst}
+use Prim.Native.Nat.{ℕ, _<_}
+use mathlib.Core.Path.{_≡_, _∙_, sym, ap, subst}
 use mathlib.Core.List.{List}
 use mathlib.Core.Logic.{inl, inr}
 use native.Mathlib.Omega.{arith}
-use lib.ListN.{length, set}
+use lib.ListN.{length}
 use Rattle.lists.specs.Scans.{Every, anyOf}
-use Rattle.octets.specs.Part.{lay}
 use Rattle.octets.specs.Rows.{row}
 use Rattle.units.specs.Sizes.{firstImage}
 use Rattle.units.specs.declared.Tick.{Tick}
-use Rattle.slots.specs.Table.{touched, marked}
 use Rattle.ledger.specs.Entries.{pageOf, at}
 use Rattle.ledger.specs.View.{entriesIn, retired, retiredAt}
 use Rattle.ledger.specs.declared.Entry.{Entry}
-use Rattle.recorder.specs.World.{World, Reply, addHit, addMiss, addEviction, addBypass, pageSize, entriesOf, baseBytes, imageBytes}
-use Rattle.recorder.specs.Calls.{hitWorld, missWorld, metaBypass, rawBypass, laidIn, readReply, written, writeReply, grown, zeroPage, growSeated, growReply}
+use Rattle.recorder.specs.World.{World, entriesOf, imageBytes}
+use Rattle.recorder.specs.Calls.{readReply, writeReply, growReply}
 use Rattle.promises.specs.Facts.{Ruled}
 use Rattle.promises.specs.Good.{Guarded, Kept, Quiet}
-use Rattle.promises.specs.Ways.{refused, hit, miss, bypass, raw, seat, Reads, Writes, Grows, read-way, write-way, grow-way}
-use Rattle.promises.specs.Frames.{quiet-framed, framed-same, framed-raw, framed-grow-meta, framed-grow-raw}
+use Rattle.promises.specs.Steps.{quiet-step}
+use Rattle.promises.specs.Stepped.{step-read, step-write, step-grow}
+pub use Rattle.promises.specs.Frames.{quiet-same}
 
 -- what follows for the tables that these bytes hold
 module _ (w v : World) (q : Quiet w v) where
@@ -60,37 +59,12 @@ kept-quiet w₀ w v k q =
     guarded n (inl h) = inl (ap (anyOf (at n)) (entries-quiet w v q) ∙ h)
     guarded n (inr h) = inr (retired-quiet w v q n ∙ h .0, omega (arith, h .1, ap (λ (t : Tick). t .0) (retiredAt-quiet w v q n)))
 
-pub quiet-same : (w : World) → Quiet w w
-quiet-same w =
-    record { settings = refl; closed = refl; count = refl; ledger = refl; side = refl; end = omega arith; kinds = λ p b. refl; pages = λ p b m. refl; base-length = refl }
-
 module _ (w : World) (r : Ruled w) where
   pub quiet-read : (p offset : ℕ) (into : List ℕ) → Quiet w (readReply p offset into w .world)
-  unfolding hitWorld missWorld metaBypass rawBypass
-  quiet-read p offset into = go (read-way w p offset into)
-    where
-      go : {x : Reply} → Reads w p offset into x → Quiet w (x .world)
-      go (refused n h) = quiet-same w
-      go (hit s k i e) = quiet-framed w (w .state .end) (touched p (w .state .slots)) (addHit (w .state .meta)) (w .state .raw) (w .base) (w .buffer) (w .kinds) (framed-same w r)
-      go (miss s k e x f) = quiet-framed w (w .state .end) (x .table) (addMiss (x .evicts) (w .state .meta)) (w .state .raw) (w .base) (lay (w .buffer) (x .slot * pageSize w) (baseBytes w p)) (w .kinds) (framed-same w r)
-      go (bypass s k e) = quiet-framed w (w .state .end) (w .state .slots) (addBypass (w .state .meta)) (w .state .raw) (w .base) (w .buffer) (w .kinds) (framed-same w r)
-      go (raw s k) = quiet-framed w (w .state .end) (w .state .slots) (w .state .meta) (addBypass (w .state .raw)) (w .base) (w .buffer) (w .kinds) (framed-same w r)
+  quiet-read p offset into = quiet-step w (step-read w r p offset into)
 
   pub quiet-write : (p offset : ℕ) (bs : List ℕ) → Quiet w (writeReply p offset bs w .world)
-  unfolding hitWorld missWorld rawBypass written
-  quiet-write p offset bs = go (write-way w p offset bs)
-    where
-      go : {x : Reply} → Writes w p offset bs x → Quiet w (x .world)
-      go (refused n h) = quiet-same w
-      go (hit s k i e) = quiet-framed w (w .state .end) (marked i (touched p (w .state .slots))) (addHit (w .state .meta)) (w .state .raw) (w .base) (laidIn (pageSize w) (w .buffer) i offset bs) (w .kinds) (framed-same w r)
-      go (miss s k e x f) = quiet-framed w (w .state .end) (marked (x .slot) (x .table)) (addMiss (x .evicts) (w .state .meta)) (w .state .raw) (w .base) (laidIn (pageSize w) (lay (w .buffer) (x .slot * pageSize w) (baseBytes w p)) (x .slot) offset bs) (w .kinds) (framed-same w r)
-      go (raw s k) = quiet-framed w (w .state .end) (w .state .slots) (w .state .meta) (addBypass (w .state .raw)) (laidIn (pageSize w) (w .base) p offset bs) (w .buffer) (w .kinds) (framed-raw w r p offset bs s k)
+  quiet-write p offset bs = quiet-step w (step-write w r p offset bs)
 
   pub quiet-grow : (kind : ℕ) → Quiet w (growReply kind w .world)
-  unfolding growSeated grown
-  quiet-grow kind = go (grow-way w kind)
-    where
-      go : {x : Reply} → Grows w kind x → Quiet w (x .world)
-      go (refused n h) = quiet-same w
-      go (seat h k x e) = quiet-framed w (w .state .end + 1) (marked (x .slot) (x .table)) (addEviction (x .evicts) (w .state .meta)) (w .state .raw) (w .base) (lay (w .buffer) (x .slot * pageSize w) (zeroPage w)) (set (w .kinds) (w .state .end) 0) (framed-grow-meta w r h 0 (omega arith))
-      go (raw h k) = quiet-framed w (w .state .end + 1) (w .state .slots) (w .state .meta) (w .state .raw) (lay (w .base) (w .state .end * pageSize w) (zeroPage w)) (w .buffer) (set (w .kinds) (w .state .end) 1) (framed-grow-raw w r h 1 (omega arith))
+  quiet-grow kind = quiet-step w (step-grow w r kind)

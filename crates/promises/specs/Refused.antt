@@ -53,7 +53,8 @@ module _ {R : Type 0} (no : ℕ → R) (yes : R) where
       let b = both (numbered t) (allOf numbered ts) e in
       go (t .1) h (ltb-true 0 (t .0) (b .0)) (tested-accepted number f ts (b .1))
     where
-      go : (b : Bool) → number (if-then b (tested ts no yes) (no (t .0))) ≡ 0 → 0 < t .0 → (number (tested ts no yes) ≡ 0 → passes ts ≡ true)
+      go : (b : Bool) → number (if-then b (tested ts no yes) (no (t .0))) ≡ 0 → 0 < t .0
+          → (number (tested ts no yes) ≡ 0 → passes ts ≡ true)
           → (b && passes ts) ≡ true
       go true h p ih = ih h
       go false h p ih = absurd (omega (arith, f (t .0)))
@@ -64,7 +65,8 @@ module _ {R : Type 0} (no : ℕ → R) (yes : R) where
   tested-same other [] h = h refl
   tested-same other (t ∷ ts) h = go (t .1) h (tested-same other ts)
     where
-      go : (b : Bool) → ((b && passes ts) ≡ true → yes ≡ other) → ((passes ts ≡ true → yes ≡ other) → tested ts no yes ≡ tested ts no other)
+      go : (b : Bool) → ((b && passes ts) ≡ true → yes ≡ other)
+          → ((passes ts ≡ true → yes ≡ other) → tested ts no yes ≡ tested ts no other)
           → if-then b (tested ts no yes) (no (t .0)) ≡ if-then b (tested ts no other) (no (t .0))
       go true h ih = ih h
       go false h ih = refl
@@ -174,5 +176,5 @@ refused-read held side base p offset n h =
     located-has : (o : Option IndexEntry) → Answered (located (headerOf held) side base p offset n o)
     located-has none = inl refl
     located-has (some x) =
-        if-has Answered (eqb (imageSum (x .page) (part side (imageAt (headerOf held .settings) (x .place)) (headerOf held .settings .size))) (x .sum)) _ _ (inl refl)
-        (inr (refl, refl, refl))
+        let image = part side (imageAt (headerOf held .settings) (x .place)) (headerOf held .settings .size) in
+        if-has Answered (eqb (imageSum (x .page) image) (x .sum)) _ _ (inl refl) (inr (refl, refl, refl))

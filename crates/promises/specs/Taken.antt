@@ -6,11 +6,9 @@ use mathlib.Core.Bool.{true}
 use mathlib.Core.List.{List, [], _∷_, _++_, map}
 use native.Mathlib.Omega.{arith}
 use lib.Dec.{leb}
-use lib.ListN.{length, length-map}
+use lib.ListN.{length}
 use borrow.Author.Tests.{le-leb}
-use Rattle.lists.specs.Below.{every-of-map}
 use Rattle.lists.specs.Bools.{and-make}
-use Rattle.lists.specs.Scans.{every-map}
 use Rattle.octets.specs.Part.{part, lay, part-lay-same}
 use Rattle.units.specs.Refusals as Refusals
 use Rattle.units.specs.Sizes.{entries, indexEnd, sideLength}
@@ -18,7 +16,7 @@ use Rattle.units.specs.Tests.{passes, tested-passes}
 use Rattle.units.specs.declared.Settings.{Settings}
 use Rattle.units.specs.declared.Tick.{Tick}
 use Rattle.sidefile.specs.Accept.{passes-append, file-header, file-index, file-long, whole-passes, front-passes, held-passes}
-use Rattle.sidefile.specs.Decode.{Small, Encodes}
+use Rattle.sidefile.specs.Decode.{Encodes}
 use Rattle.sidefile.specs.Encode.{named, headerFor, indexBytes, headerOf, indexOf}
 use Rattle.sidefile.specs.Judge.{wholeTests, frontTests, heldTests}
 use Rattle.sidefile.specs.Lengths.{length-encoded, indexEnd-named}
@@ -26,10 +24,9 @@ use Rattle.sidefile.specs.declared.Header.{Header}
 use Rattle.sidefile.specs.declared.IndexEntry.{IndexEntry}
 use Rattle.ledger.specs.Rowed as Rowed
 use Rattle.ledger.specs.View.{indexed}
-use Rattle.ledger.specs.declared.Entry.{Entry}
 use Rattle.recorder.specs.World.{World, entriesOf}
 use Rattle.desk.specs.Take.{Taken, untaken, heldLength, taken, takeTests, takeReply}
-use Rattle.promises.specs.Facts.{end-small}
+use Rattle.promises.specs.Encoded.{encodes-good}
 use Rattle.promises.specs.Good.{frontAt, Good}
 
 -- what a desk reads in the header of a tick closed with these entries
@@ -97,27 +94,8 @@ module _ (w : World) (g : Good w) where
   abbrev s : Settings
   s = w .state .settings
 
-  pub few-entries : length (entriesOf w) ≤ entries s
-  unfolding entriesOf
-  few-entries = omega (arith, Rowed.length-entriesIn (w .state .entries) (w .ledger), g .ruled .facts .counted)
-
-  pub encodes : Encodes s (w .state .closed) (g .ending) (indexIn w)
-  encodes =
-      record {
-        limited = g .ruled .facts .limited;
-        tick = g .ruled .tick;
-        ended = omega (arith, g .ended, end-small w (g .ruled));
-        few = omega (arith, few-entries, length-map (entriesOf w) indexed);
-        small = every-of-map indexed (entriesOf w) (every-map little (entriesOf w) (g .ruled .small));
-        ascends = g .ruled .facts .ascends;
-        pages = every-of-map indexed (entriesOf w) (g .early);
-        placed = every-of-map indexed (entriesOf w) (every-map (λ x f. f .place-below) (entriesOf w) (g .ruled .facts .each));
-        alone = g .ruled .facts .alone;
-        earlier = every-of-map indexed (entriesOf w) (every-map (λ x f. f .changed-before) (entriesOf w) (g .ruled .facts .each));
-      }
-    where
-      little : (x : Entry) → Rowed.Small x → Small (indexed x)
-      little x m = record { page = m .page; place = m .place; changed = m .changed; sum = m .sum }
+  abbrev encodes : Encodes s (w .state .closed) (g .ending) (indexIn w)
+  encodes = encodes-good w g
 
   pub side-long : sideLength s ≤ length (w .side)
   unfolding sideLength

@@ -1,0 +1,55 @@
+-- The ways that a close can go: refused with the world as it was, or accepted, with what its tests say. Assumes nothing.
+use Prim.Native.Nat.{_<_}
+use mathlib.Core.Path.{_≡_, refl, sym, ap, subst}
+use mathlib.Core.Bool.{true, _&&_}
+use mathlib.Core.List.{List, [], _∷_, _++_}
+use native.Mathlib.Decide.{ℕ-discrete}
+use lib.Dec.{ltb}
+use borrow.Author.Tests.{ltb-true}
+use Rattle.lists.specs.Bools.{both}
+use Rattle.lists.specs.Scans.{allOf}
+use Rattle.units.specs.Sizes.{top}
+use Rattle.units.specs.Tests.{Test, passes, tested-passes}
+use Rattle.recorder.specs.World.{World, Reply, refuse, accept}
+use Rattle.recorder.specs.Rules.{standing}
+use Rattle.recorder.specs.Close.{closed, suffices, closeTests, closeReply}
+use Rattle.recorder.specs.Runs.{close, reply}
+use Rattle.promises.specs.Refused.{numbered, tested-accepted, refused-same}
+
+passes-later : (ts us : List Test) → passes (ts ++ us) ≡ true → passes us ≡ true
+unfolding passes
+passes-later [] us h = h
+passes-later (t ∷ ts) us h = passes-later ts us (both (t .1) (passes (ts ++ us)) h .1)
+
+-- an accepted close
+pub record Closes (w : World) : Type 0 where
+  pub passed : passes (standing w ++ closeTests w) ≡ true
+  pub early : w .state .closed .0 < top
+  pub enough : suffices w ≡ true
+  pub is : closeReply w .world ≡ closed w
+
+module _ (w : World) where
+  numbered-close : allOf numbered (standing w ++ closeTests w) ≡ true
+  unfolding allOf standing closeTests
+  numbered-close = refl
+
+  pub close-accepted : closeReply w .number ≡ 0 → Closes w
+  unfolding closeReply passes closeTests
+  close-accepted h =
+      let p = tested-accepted (refuse w []) (accept (closed w) []) (λ r. r .number) (λ n. refl) (standing w ++ closeTests w) numbered-close h in
+      let a = both (ltb (w .state .closed .0) top) (suffices w && true) (passes-later (standing w) (closeTests w) p) in
+      record {
+        passed = p;
+        early = ltb-true (w .state .closed .0) top (a .0);
+        enough = both (suffices w) true (a .1) .0;
+        is = ap (λ (r : Reply). r .world) (tested-passes (refuse w []) (accept (closed w) []) (standing w ++ closeTests w) p);
+      }
+
+  -- what holds of the world, and of the closed world where the close is accepted, holds after the close
+  pub close-by : (P : World → Type 0) → P w → (Closes w → P (closed w)) → P (closeReply w .world)
+  unfolding reply
+  close-by P h f = go (ℕ-discrete (closeReply w .number) 0)
+    where
+      go : Dec (closeReply w .number ≡ 0) → P (closeReply w .world)
+      go (yes z) = let c = close-accepted z in subst P (sym (c .is)) (f c)
+      go (no z) = subst P (sym (refused-same close w z .0)) h

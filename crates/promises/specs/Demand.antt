@@ -1,0 +1,76 @@
+-- Demand 3 of the letter, as a statement. Read it with the letter in the other hand: each name below stands for a clause of
+-- it, in its order. Demanded.antt proves it. Nothing is assumed beside what the letter says.
+use Prim.Native.Nat.{ℕ, _+_, _<_, _≤_}
+use mathlib.Core.List.{List, [], _∷_, _++_}
+use mathlib.Core.Path.{_≡_}
+use lib.ListN.{take}
+use Rattle.octets.specs.Part.{part}
+use Rattle.units.specs.Sizes.{indexEnd, sideLength, baseLength}
+use Rattle.recorder.specs.World.{World, kindOf}
+use Rattle.recorder.specs.Close.{closeReply}
+use Rattle.recorder.specs.Runs.{Call, close, run, Recording, opening, reached, heldBy}
+use Rattle.desk.specs.Read.{Answer, deskRead}
+
+-- The recording stands at the close of a tick: right after an accepted close, or right after its open, which counts as the
+-- close of tick B.
+pub data AtClose (r : Recording) : Type 0 where
+  justOpened : r .calls ≡ [] → AtClose r
+  justClosed : (before : List Call) → r .calls ≡ before ++ (close ∷ []) → closeReply (run before (opening r .world)) .number ≡ 0 → AtClose r
+
+-- Two recordings "with equal settings, equal starting files and kinds, and equal calls up to the close of a tick". Page
+-- buffers, ledgers and whatever lies behind the bytes that the settings ask for may differ.
+pub record SameUpToClose (a b : Recording) : Type 0 where
+  pub settings : b .settings ≡ a .settings
+  pub end : b .end ≡ a .end
+  pub tick : b .tick ≡ a .tick
+  pub base : take (baseLength (a .settings)) (b .lent .base) ≡ take (baseLength (a .settings)) (a .lent .base)
+  pub side : take (sideLength (a .settings)) (b .lent .side) ≡ take (sideLength (a .settings)) (a .lent .side)
+  pub kinds : take (a .settings .capacity) (b .lent .kinds) ≡ take (a .settings .capacity) (a .lent .kinds)
+  pub calls : b .calls ≡ a .calls
+  pub a-opens : opening a .number ≡ 0
+  pub b-opens : opening b .number ≡ 0
+  pub at-close : AtClose a
+
+-- "which then go different ways": any further calls, accepted or refused; the world that they lead to
+abbrev pub later : Recording → List Call → World
+later r more = run more (reached r)
+
+-- "as long as neither has closed more than the maximum lag of further ticks"
+abbrev pub WithinLag : Recording → List Call → Type 0
+WithinLag r more = later r more .state .closed .0 ≤ reached r .state .closed .0 + r .settings .lag
+
+-- "A desk that took its index at that close": its held buffer begins with the header and index of that close. A take or a
+-- refresh at that close, or later in the same open tick, leaves it so (Demanded: take-holds, refresh-holds).
+abbrev pub HoldsIndex : Recording → List ℕ → Type 0
+HoldsIndex r held = part held 0 (indexEnd (r .settings)) ≡ part (reached r .side) 0 (indexEnd (r .settings))
+
+-- "gets the same answers": number, source, offset and bytes of a read between the recorder's calls
+abbrev pub seen : Recording → List Call → List ℕ → ℕ → ℕ → ℕ → Answer
+seen r more held p offset n = deskRead held (later r more .side) (later r more .base) p offset n
+
+-- "for every page that is not raw"
+abbrev pub RawThen : Recording → ℕ → Type 0
+RawThen r p = (p < reached r .state .end) × (kindOf (reached r) p ≡ 1)
+
+-- "gets the same answers from either, bytes and refusals"
+abbrev pub SameAnswers : Type 0
+SameAnswers =
+    (a b : Recording) → SameUpToClose a b
+    → (ones twos : List Call) → WithinLag a ones → WithinLag b twos
+    → (held₁ held₂ : List ℕ) → HoldsIndex a held₁ → HoldsIndex b held₂
+    → (p offset n : ℕ) → (RawThen a p → ⊥)
+    → seen a ones held₁ p offset n ≡ seen b twos held₂ p offset n
+
+-- "For a metadata page in the file at that close, the bytes are those it held then": what the calls made of it (heldBy). An
+-- accepted read gives these bytes, and a read inside the page is accepted.
+pub record BytesThen (r : Recording) (p offset n : ℕ) (answer : Answer) : Type 0 where
+  pub bytes : answer .number ≡ 0 → answer .bytes ≡ part (heldBy r p) offset n
+  pub accepted : 1 ≤ n → offset + n ≤ r .settings .size → answer .number ≡ 0
+
+abbrev pub HeldThen : Type 0
+HeldThen =
+    (r : Recording) → opening r .number ≡ 0 → AtClose r
+    → (more : List Call) → WithinLag r more
+    → (held : List ℕ) → HoldsIndex r held
+    → (p offset n : ℕ) → p < reached r .state .end → kindOf (reached r) p ≡ 0
+    → BytesThen r p offset n (seen r more held p offset n)

@@ -1,0 +1,94 @@
+//! The command line of `replay`: its words, the files it reads, and its exit status.
+
+use std::io::{self, BufWriter, Read, Write};
+use std::process::ExitCode;
+
+use crate::coverage::{self, Tally};
+use crate::generate::generate;
+use crate::output::{self, Stop};
+use crate::version::{self, Version};
+
+pub const USAGE: &str = "usage: replay [--on VERSION] FILE
+       replay [--on VERSION] --coverage FILE...
+       replay --generate SEED CALLS
+FILE is a call script, - for standard input. VERSION is plain (the default) or proved.";
+
+/// Does what the words ask. An error is one line for the standard error stream.
+pub fn run(words: &[String]) -> Result<ExitCode, String> {
+    let words: Vec<&str> = words.iter().map(String::as_str).collect();
+    match words.as_slice() {
+        ["--on", name, rest @ ..] => on(version::named(name)?, rest),
+        ["--generate", seed, calls] => print_script(seed, calls),
+        ["--help"] => {
+            println!("{USAGE}");
+            Ok(ExitCode::SUCCESS)
+        }
+        rest => on(version::named("plain")?, rest),
+    }
+}
+
+fn on(version: &dyn Version, words: &[&str]) -> Result<ExitCode, String> {
+    match words {
+        ["--coverage", files @ ..] if !files.is_empty() => print_coverage(version, files),
+        [file] if !file.starts_with("--") => print_replay(version, file),
+        _ => {
+            Err("the words after the program's name are not understood; --help tells them"
+                .to_string())
+        }
+    }
+}
+
+fn print_replay(version: &dyn Version, file: &str) -> Result<ExitCode, String> {
+    let text = script_text(file)?;
+    let mut out = BufWriter::new(io::stdout().lock());
+    let end = output::replay(version, &text, &mut out);
+    let flushed = out.flush();
+    match end.and(flushed.map_err(Stop::Output)) {
+        Ok(()) => Ok(ExitCode::SUCCESS),
+        Err(Stop::Script(error)) => Err(format!("{file}: {error}")),
+        Err(Stop::Output(error)) => written(Err(error)).map(|()| ExitCode::SUCCESS),
+    }
+}
+
+fn print_coverage(version: &dyn Version, files: &[&str]) -> Result<ExitCode, String> {
+    let mut tally = Tally::new();
+    for file in files {
+        let text = script_text(file)?;
+        coverage::observe_script(version, &text, &mut tally)
+            .map_err(|error| format!("{file}: {error}"))?;
+    }
+    print_text(&tally.report())?;
+    Ok(if tally.missing().is_empty() { ExitCode::SUCCESS } else { ExitCode::from(1) })
+}
+
+fn print_script(seed: &str, calls: &str) -> Result<ExitCode, String> {
+    let seed = seed.parse().map_err(|_| format!("'{seed}' is no seed"))?;
+    let calls = calls.parse().map_err(|_| format!("'{calls}' is no number of calls"))?;
+    print_text(&generate(seed, calls))?;
+    Ok(ExitCode::SUCCESS)
+}
+
+fn print_text(text: &str) -> Result<(), String> {
+    written(io::stdout().lock().write_all(text.as_bytes()))
+}
+
+/// A reader that stopped listening is no error.
+fn written(end: io::Result<()>) -> Result<(), String> {
+    match end {
+        Err(error) if error.kind() != io::ErrorKind::BrokenPipe => {
+            Err(format!("standard output: {error}"))
+        }
+        _ => Ok(()),
+    }
+}
+
+/// A script's text. Bytes that are no text can only stand in comments.
+fn script_text(file: &str) -> Result<String, String> {
+    let mut bytes = Vec::new();
+    let read = match file {
+        "-" => io::stdin().lock().read_to_end(&mut bytes).map(|_| ()),
+        _ => std::fs::read(file).map(|read| bytes = read),
+    };
+    read.map_err(|error| format!("{file}: {error}"))?;
+    Ok(String::from_utf8_lossy(&bytes).into_owned())
+}

@@ -1,0 +1,157 @@
+//! Plays the items of a script, one after the other, on one version of the layer.
+
+use crate::buffers::{Buffer, Buffers};
+use crate::pattern::pattern;
+use crate::recorder::Recorder;
+use crate::script::{Call, Item};
+use crate::version::{Answer, Lent, Settings, State, Version};
+
+/// What stands in the slice of a recorder read before the call.
+const UNREAD: u8 = 0xee;
+
+/// The refusal of a state that struct and ledger cannot hold.
+const BROKEN_STATE: u32 = 3;
+
+/// Everything a call is given and leaves: the six buffers and the recorder's state.
+#[derive(Clone, Debug, Default, PartialEq, Eq)]
+pub struct World {
+    pub buffers: Buffers,
+    pub recorder: Recorder,
+}
+
+/// A call's answer, and what it hands to its caller beside it.
+#[derive(Clone, Debug, PartialEq, Eq)]
+pub struct Reply {
+    pub number: u32,
+    pub handed: Handed,
+}
+
+#[derive(Clone, Debug, PartialEq, Eq)]
+pub enum Handed {
+    Nothing,
+    /// The slice of a recorder read.
+    Dest(Vec<u8>),
+    /// The part that a desk read found.
+    Found {
+        source: u32,
+        offset: usize,
+        bytes: Vec<u8>,
+    },
+}
+
+/// A version and the world it has worked on so far.
+pub struct Machine<'v> {
+    pub version: &'v dyn Version,
+    pub world: World,
+}
+
+impl<'v> Machine<'v> {
+    pub fn new(version: &'v dyn Version) -> Machine<'v> {
+        Machine { version, world: World::default() }
+    }
+
+    /// Plays one item: a reply if it is a call, a message if a preparing line asks for what cannot
+    /// be.
+    pub fn play(&mut self, item: &Item) -> Result<Option<Reply>, String> {
+        let buffers = &mut self.world.buffers;
+        match item {
+            Item::Buffer { name, length, seed } => {
+                *buffers.get_mut(*name) = Buffer::new(pattern(*length, *seed))
+            }
+            Item::Lend { name, length } => buffers.get_mut(*name).lend(*length)?,
+            Item::Poke { name, offset, data } => buffers.get_mut(*name).poke(*offset, data)?,
+            Item::State(fields) => self.world.recorder.set(fields.as_ref().clone()),
+            Item::Call(call) => return Ok(Some(self.call(call))),
+        }
+        Ok(None)
+    }
+
+    /// Makes one call.
+    pub fn call(&mut self, call: &Call) -> Reply {
+        match *call {
+            Call::Open { settings, end, tick } => plain_reply(self.open(settings, end, tick)),
+            Call::Read { page, offset, length } => {
+                let mut dest = vec![UNREAD; length];
+                let number = self.with_state(|version, state, lent| {
+                    version.read(state, lent, page, offset, &mut dest)
+                });
+                Reply { number, handed: Handed::Dest(dest) }
+            }
+            Call::Write { page, offset, ref data } => {
+                plain_reply(self.with_state(|version, state, lent| {
+                    version.write(state, lent, page, offset, data)
+                }))
+            }
+            Call::Grow { kind } => {
+                plain_reply(self.with_state(|version, state, lent| version.grow(state, lent, kind)))
+            }
+            Call::Close => {
+                plain_reply(self.with_state(|version, state, lent| version.close(state, lent)))
+            }
+            Call::Take => plain_reply(self.take()),
+            Call::Refresh => plain_reply(self.refresh()),
+            Call::DeskRead { page, offset, length } => self.desk_read(page, offset, length),
+        }
+    }
+
+    /// A refused open keeps the state there was.
+    fn open(&mut self, settings: Settings, end: u32, tick: u32) -> u32 {
+        let (_, lent) = &mut lend(&mut self.world);
+        let answer = self.version.open(settings, end, tick, lent);
+        if answer.number == 0 {
+            self.world.recorder.opened(answer.state);
+        }
+        answer.number
+    }
+
+    /// The other recorder calls hand a state back also where they refuse; it is taken over as it
+    /// comes, so that a refusal which changes it shows.
+    fn with_state(&mut self, call: impl FnOnce(&dyn Version, State, &mut Lent) -> Answer) -> u32 {
+        if !self.world.recorder.is_expressible() {
+            return BROKEN_STATE;
+        }
+        let (state, mut lent) = lend(&mut self.world);
+        let answer = call(self.version, state, &mut lent);
+        self.world.recorder.answered(answer.state);
+        answer.number
+    }
+
+    fn take(&mut self) -> u32 {
+        let Buffers { side, held, .. } = &mut self.world.buffers;
+        self.version.take(side.lent(), held.lent_mut())
+    }
+
+    fn refresh(&mut self) -> u32 {
+        let Buffers { side, held, marks, .. } = &mut self.world.buffers;
+        self.version.refresh(side.lent(), held.lent_mut(), marks.lent_mut())
+    }
+
+    fn desk_read(&mut self, page: u32, offset: u32, length: u32) -> Reply {
+        let Buffers { base, side, held, .. } = &self.world.buffers;
+        let found =
+            self.version.desk_read(side.lent(), base.lent(), held.lent(), page, offset, length);
+        let handed = Handed::Found {
+            source: found.source,
+            offset: found.offset,
+            bytes: found.bytes.to_vec(),
+        };
+        Reply { number: found.number, handed }
+    }
+}
+
+fn plain_reply(number: u32) -> Reply {
+    Reply { number, handed: Handed::Nothing }
+}
+
+/// The state by value and everything that is lent to a recorder call.
+fn lend(world: &mut World) -> (State, Lent<'_>) {
+    let World { buffers, recorder } = world;
+    let lent = Lent {
+        ledger: &mut recorder.ledger,
+        base: buffers.base.lent_mut(),
+        side: buffers.side.lent_mut(),
+        pages: buffers.pages.lent_mut(),
+        kinds: buffers.kinds.lent_mut(),
+    };
+    (recorder.state, lent)
+}

@@ -1,0 +1,42 @@
+//! A version of the layer, as the replay sees it: the calls over numbers, the state struct and lent
+//! bytes. The structs are those of `plain`; another version translates to and from them in a file
+//! of its own.
+
+pub use plain::{Answer, Counts, Found, Lent, Settings, Slots, State, EMPTY};
+
+/// The eight calls. Each takes any input and answers; number 0 is accepted.
+pub trait Version {
+    fn open(&self, settings: Settings, end: u32, tick: u32, lent: &mut Lent) -> Answer;
+    fn read(
+        &self,
+        state: State,
+        lent: &mut Lent,
+        page: u32,
+        offset: u32,
+        into: &mut [u8],
+    ) -> Answer;
+    fn write(&self, state: State, lent: &mut Lent, page: u32, offset: u32, from: &[u8]) -> Answer;
+    fn grow(&self, state: State, lent: &mut Lent, kind: u32) -> Answer;
+    fn close(&self, state: State, lent: &mut Lent) -> Answer;
+
+    fn take(&self, side: &[u8], held: &mut [u8]) -> u32;
+    fn refresh(&self, side: &[u8], held: &mut [u8], marks: &mut [u8]) -> u32;
+    fn desk_read<'a>(
+        &self,
+        side: &'a [u8],
+        base: &'a [u8],
+        held: &[u8],
+        page: u32,
+        offset: u32,
+        length: u32,
+    ) -> Found<'a>;
+}
+
+/// The version that a word after `--on` names; a line that says why there is none.
+pub fn named(word: &str) -> Result<&'static dyn Version, String> {
+    match word {
+        "plain" => Ok(&crate::on_plain::Plain),
+        "proved" => Err("the version 'proved' is not built into this program".to_string()),
+        _ => Err(format!("no version is named '{word}'")),
+    }
+}
