@@ -1,5 +1,5 @@
--- Demand 3 of the letter, as a statement. Read it with the letter in the other hand: each name below stands for a clause of
--- it, in its order. Demanded.antt proves it. Nothing is assumed beside what the letter says.
+-- Demand 3 of the letter, as a statement. Read it with the letter in the other hand: each name below stands for one clause
+-- of its third term, in the order of the text. Demanded.antt proves it. Nothing is assumed beside what the letter says.
 use Prim.Native.Nat.{ℕ, _+_, _<_, _≤_}
 use mathlib.Core.List.{List, [], _∷_, _++_}
 use mathlib.Core.Path.{_≡_}
@@ -17,8 +17,8 @@ pub data AtClose (r : Recording) : Type 0 where
   justOpened : r .calls ≡ [] → AtClose r
   justClosed : (before : List Call) → r .calls ≡ before ++ (close ∷ []) → closeReply (run before (opening r .world)) .number ≡ 0 → AtClose r
 
--- Two recordings "with equal settings, equal starting files and kinds, and equal calls up to the close of a tick". Page
--- buffers, ledgers and whatever lies behind the bytes that the settings ask for may differ.
+-- Clause: two recordings that are the same up to that close, in settings, starting files, kinds and calls. Page buffers,
+-- ledgers and whatever lies behind the bytes that the settings ask for may differ.
 pub record SameUpToClose (a b : Recording) : Type 0 where
   pub settings : b .settings ≡ a .settings
   pub end : b .end ≡ a .end
@@ -31,28 +31,28 @@ pub record SameUpToClose (a b : Recording) : Type 0 where
   pub b-opens : opening b .number ≡ 0
   pub at-close : AtClose a
 
--- "which then go different ways": any further calls, accepted or refused; the world that they lead to
+-- Clause: from there each goes its own way: any further calls, accepted or refused; the world that they lead to
 abbrev pub later : Recording → List Call → World
 later r more = run more (reached r)
 
--- "as long as neither has closed more than the maximum lag of further ticks"
+-- Clause: no more further ticks are closed than the maximum lag
 abbrev pub WithinLag : Recording → List Call → Type 0
 WithinLag r more = later r more .state .closed .0 ≤ reached r .state .closed .0 + r .settings .lag
 
--- "A desk that took its index at that close": its held buffer begins with the header and index of that close. A take or a
--- refresh at that close, or later in the same open tick, leaves it so (Demanded: take-holds, refresh-holds).
+-- Clause: the desk has the index of that close: its held buffer begins with the header and index of it. A take or a refresh
+-- at that close, or later in the same open tick, leaves it so (Holding: take-holds, refresh-holds).
 abbrev pub HoldsIndex : Recording → List ℕ → Type 0
 HoldsIndex r held = part held 0 (indexEnd (r .settings)) ≡ part (reached r .side) 0 (indexEnd (r .settings))
 
--- "gets the same answers": number, source, offset and bytes of a read between the recorder's calls
+-- Clause: what the desk is answered: number, source, offset and bytes of a read between the recorder's calls
 abbrev pub seen : Recording → List Call → List ℕ → ℕ → ℕ → ℕ → Answer
 seen r more held p offset n = deskRead held (later r more .side) (later r more .base) p offset n
 
--- "for every page that is not raw"
+-- Clause: raw pages are left out: those in the file at that close and of kind 1
 abbrev pub RawThen : Recording → ℕ → Type 0
 RawThen r p = (p < reached r .state .end) × (kindOf (reached r) p ≡ 1)
 
--- "gets the same answers from either, bytes and refusals"
+-- The first half: either recording answers the same, bytes and refusals
 abbrev pub SameAnswers : Type 0
 SameAnswers =
     (a b : Recording) → SameUpToClose a b
@@ -61,8 +61,8 @@ SameAnswers =
     → (p offset n : ℕ) → (RawThen a p → ⊥)
     → seen a ones held₁ p offset n ≡ seen b twos held₂ p offset n
 
--- "For a metadata page in the file at that close, the bytes are those it held then": what the calls made of it (heldBy). An
--- accepted read gives these bytes, and a read inside the page is accepted.
+-- The second half, of a metadata page in the file at that close: an accepted read gives the bytes that the calls up to that
+-- close made of it (heldBy), and a read inside the page is accepted.
 pub record BytesThen (r : Recording) (p offset n : ℕ) (answer : Answer) : Type 0 where
   pub bytes : answer .number ≡ 0 → answer .bytes ≡ part (heldBy r p) offset n
   pub accepted : 1 ≤ n → offset + n ≤ r .settings .size → answer .number ≡ 0

@@ -8,6 +8,7 @@ use native.Mathlib.Decide.{ℕ-discrete, decLt}
 use native.Mathlib.Omega.{arith}
 use Rattle.octets.specs.Part.{part}
 use Rattle.units.specs.Sizes.{indexEnd}
+use Rattle.units.specs.Refusals as Refusals
 use Rattle.units.specs.declared.Settings.{Settings}
 use Rattle.recorder.specs.World.{kindOf}
 use Rattle.recorder.specs.declared.State.{State}

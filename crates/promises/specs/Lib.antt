@@ -7,6 +7,7 @@ pub mod AlikeGood
 pub mod AlikeRecordings
 pub mod AlikeRuns
 pub mod AlikeSlices
+pub mod AnyWorld
 pub mod Clause
 pub mod CloseWay
 pub mod Closed
@@ -25,9 +26,11 @@ pub mod Fronts
 pub mod Good
 pub mod Growing
 pub mod Held
+pub mod Holding
 pub mod KeptSelf
 pub mod Lagging
 pub mod Longer
+pub mod NeverBroken
 pub mod Nexts
 pub mod Opened
 pub mod Puts

@@ -4,6 +4,7 @@ use Prim.Native.Nat.{_+_, _≤_}
 use mathlib.Core.Path.{_≡_, refl, _∙_, ap}
 use mathlib.Core.List.{List, [], _∷_, _++_}
 use native.Mathlib.Omega.{arith}
+use Rattle.units.specs.declared.Tick.{Tick}
 use Rattle.recorder.specs.World.{World}
 use Rattle.recorder.specs.Calls.{openState}
 use Rattle.recorder.specs.Close.{closed, closeReply}
@@ -81,6 +82,16 @@ settings-reply (read p offset into) w g = quiet-read w (g .ruled) p offset into 
 settings-reply (write p offset bs) w g = quiet-write w (g .ruled) p offset bs .settings
 settings-reply (grow kind) w g = quiet-grow w (g .ruled) kind .settings
 settings-reply close w g = close-by w (λ v. v .state .settings ≡ w .state .settings) refl (λ c. settings-closed w)
+
+-- a call that closes no tick does not write the side file
+pub side-reply : (c : Call) (w : World) → Good w → reply c w .world .state .closed .0 ≡ w .state .closed .0 → reply c w .world .side ≡ w .side
+unfolding reply
+side-reply (read p offset into) w g h = quiet-read w (g .ruled) p offset into .side
+side-reply (write p offset bs) w g h = quiet-write w (g .ruled) p offset bs .side
+side-reply (grow kind) w g h = quiet-grow w (g .ruled) kind .side
+side-reply close w g h =
+    close-by w (λ v. v .state .closed .0 ≡ w .state .closed .0 → v .side ≡ w .side) (λ z. refl)
+    (λ c z. absurd (omega (arith, ap (λ (t : Tick). t .0) (tick-closed w)))) h
 
 pub good-run : (cs : List Call) (w : World) → Good w → Good (run cs w)
 unfolding run

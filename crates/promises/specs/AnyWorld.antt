@@ -1,0 +1,105 @@
+-- What holds of any world, forged ones included: after an accepted call the state rules hold, those that look into the kind
+-- table as well; what an accepted open or close leaves, a desk takes, and its held index is the recorder's entries. A world
+-- may be anything that the code's types allow. (That a refused call changes nothing is Refused.antt.) Assumes nothing.
+use Prim.Native.Nat.{ℕ, _≤_}
+use mathlib.Core.Path.{_≡_, refl, sym, ap, subst}
+use mathlib.Core.Bool.{true}
+use mathlib.Core.List.{List, [], _∷_, _++_, map}
+use native.Mathlib.Omega.{arith}
+use lib.ListN.{length}
+use Rattle.lists.specs.Bools.{both, and-make}
+use Rattle.lists.specs.Scans.{allOf}
+use Rattle.octets.specs.Number.{Octets}
+use Rattle.units.specs.Sizes.{top, indexEnd, sideLength}
+use Rattle.units.specs.Tests.{Test, passes}
+use Rattle.units.specs.declared.Settings.{Settings}
+use Rattle.sidefile.specs.Encode.{indexOf}
+use Rattle.slots.specs.Sits.{Whole}
+use Rattle.ledger.specs.Rowed.{small-entriesIn}
+use Rattle.ledger.specs.View.{indexed}
+use Rattle.recorder.specs.World.{World, refuse, entriesOf}
+use Rattle.recorder.specs.Rules.{rules, kindRules, standing}
+use Rattle.recorder.specs.Calls.{spanTests, growTests, openReply, readReply, writeReply, growReply}
+use Rattle.recorder.specs.Close.{closed, closeTests, closeReply}
+use Rattle.recorder.specs.Runs.{Call, read, write, grow, close, reply}
+use Rattle.desk.specs.Take.{Taken, takeReply}
+use Rattle.promises.specs.CloseWay.{Closes, close-accepted}
+use Rattle.promises.specs.Closed.{side-length-closed}
+use Rattle.promises.specs.ClosedRules.{front-closed, encodes-closed}
+use Rattle.promises.specs.Facts.{Ruled, passes-ruled, rule-back, kind-back}
+use Rattle.promises.specs.Opened.{good-open}
+use Rattle.promises.specs.Reached.{ruled-reply}
+use Rattle.promises.specs.Refused.{numbered, tested-accepted}
+use Rattle.promises.specs.Taken.{take-accepts, taken-index, takes, took-take, held-index}
+
+-- what the code's types say of a world: arrays of 16, a tick of 32 bits, a ledger of bytes
+pub record Typed (w : World) : Type 0 where
+  pub whole : Whole (w .state .slots)
+  pub tick : w .state .closed .0 ≤ top
+  pub octets : Octets (w .ledger)
+
+passes-first : (ts us : List Test) → passes (ts ++ us) ≡ true → passes ts ≡ true
+unfolding passes
+passes-first [] us h = refl
+passes-first (t ∷ ts) us h = let b = both (t .1) (passes (ts ++ us)) h in and-make (t .1) (passes ts) (b .0) (passes-first ts us (b .1))
+
+pub ruled : (w : World) → Typed w → passes (standing w) ≡ true → Ruled w
+unfolding entriesOf
+ruled w t h = passes-ruled w (t .whole) (t .tick) (small-entriesIn (w .state .entries) (w .ledger) (t .octets)) h
+
+module _ (w : World) where
+  numbered-span : (p offset n : ℕ) → allOf numbered (standing w ++ spanTests w p offset n) ≡ true
+  unfolding allOf standing spanTests
+  numbered-span p offset n = refl
+
+  numbered-grow : (kind : ℕ) → allOf numbered (standing w ++ growTests w kind) ≡ true
+  unfolding allOf standing growTests
+  numbered-grow kind = refl
+
+-- an accepted call has passed the tests that every call begins with
+pub accepted-standing : (c : Call) (w : World) → reply c w .number ≡ 0 → passes (standing w) ≡ true
+unfolding reply readReply writeReply growReply closeReply
+accepted-standing (read p offset into) w h =
+    passes-first (standing w) (spanTests w p offset (length into))
+    (tested-accepted (refuse w into) _ (λ r. r .number) (λ n. refl) (standing w ++ spanTests w p offset (length into)) (numbered-span w p offset (length into)) h)
+accepted-standing (write p offset bs) w h =
+    passes-first (standing w) (spanTests w p offset (length bs))
+    (tested-accepted (refuse w bs) _ (λ r. r .number) (λ n. refl) (standing w ++ spanTests w p offset (length bs)) (numbered-span w p offset (length bs)) h)
+accepted-standing (grow kind) w h =
+    passes-first (standing w) (growTests w kind)
+    (tested-accepted (refuse w []) _ (λ r. r .number) (λ n. refl) (standing w ++ growTests w kind) (numbered-grow w kind) h)
+accepted-standing close w h = passes-first (standing w) (closeTests w) (close-accepted w h .passed)
+
+-- the state rules after it
+pub rules-after : (c : Call) (w : World) → Typed w → reply c w .number ≡ 0
+    → (rules (reply c w .world) ≡ true) × (kindRules (reply c w .world) ≡ true)
+rules-after c w t h =
+    let r = ruled-reply c w (ruled w t (accepted-standing c w h)) in
+    (rule-back (reply c w .world) (r .facts), kind-back (reply c w .world) (r .kinds))
+
+-- What the recorder closes, the reader takes.
+abbrev pub Takeable : World → Type 0
+Takeable w =
+    (held : List ℕ) → indexEnd (w .state .settings) ≤ length held
+    → (takeReply (w .side) held .number ≡ 0) × (indexOf (takeReply (w .side) held .held) ≡ map indexed (entriesOf w))
+
+pub open-taken : (s : Settings) (end B : ℕ) (w : World) → openReply s end B w .number ≡ 0 → Takeable (openReply s end B w .world)
+open-taken s end B w h held room =
+    let v = openReply s end B w .world in
+    let g = good-open s end B w h in
+    (ap (λ (t : Taken). t .number) (takes v g held room), held-index v g (takeReply (v .side) held .held) (took-take v g held room))
+
+pub close-taken : (w : World) → Typed w → closeReply w .number ≡ 0 → Takeable (closeReply w .world)
+unfolding sideLength closed
+close-taken w t h = let c = close-accepted w h in subst Takeable (sym (c .is)) (go c)
+  where
+    go : Closes w → Takeable (closed w)
+    go c held room =
+        let r = ruled w t (passes-first (standing w) (closeTests w) (c .passed)) in
+        let s = w .state .settings in
+        let e = encodes-closed w r (c .enough) (c .early) in
+        let f = front-closed w r (c .enough) (c .early) in
+        let l : sideLength s ≤ length (closed w .side) = omega (arith, side-length-closed w, r .lengths .side-long) in (
+          ap (λ (t : Taken). t .number) (take-accepts s (closed w .state .closed) (w .state .end) _ e (closed w .side) f held room l),
+          taken-index s (closed w .state .closed) (w .state .end) _ e (closed w .side) f held room l,
+        )
