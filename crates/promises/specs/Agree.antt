@@ -6,7 +6,6 @@ use mathlib.Core.Path.{_≡_, refl}
 use mathlib.Core.Bool.{Bool, true, false, true≢false, false≢true}
 use mathlib.Core.List.{List, [], _∷_, _++_}
 use Rattle.lists.specs.Bools.{both}
-use Rattle.lists.specs.Scans.{Every, done, more}
 use Rattle.units.specs.Tests.{Test, passes, tested}
 
 pub data Agree : List Test → List Test → Type 0 where
@@ -46,14 +45,3 @@ agree-tested P f g x y refuse (left {b = true} e h) go = agree-tested P f g x y 
 agree-tested P f g x y refuse (left {b = false} e h) go = absurd (false≢true e)
 agree-tested P f g x y refuse (right {c = true} e h) go = agree-tested P f g x y refuse h go
 agree-tested P f g x y refuse (right {c = false} e h) go = absurd (false≢true e)
-
--- what passes as a whole passes test by test, and from anywhere on
-pub passes-every : (ts : List Test) → passes ts ≡ true → Every (λ t. t .1 ≡ true) ts
-unfolding passes
-passes-every [] h = done
-passes-every (t ∷ ts) h = let b = both (t .1) (passes ts) h in more (b .0) (passes-every ts (b .1))
-
-pub passes-behind : (ts us : List Test) → passes (ts ++ us) ≡ true → passes us ≡ true
-unfolding passes
-passes-behind [] us h = h
-passes-behind (t ∷ ts) us h = passes-behind ts us (both (t .1) (passes (ts ++ us)) h .1)

@@ -16,7 +16,7 @@ use Rattle.octets.specs.Part.{lay, length-lay}
 use Rattle.octets.specs.Rows.{page, row-in, length-row}
 use Rattle.units.specs.Refusals as Refusals
 use Rattle.units.specs.Sizes.{baseLength}
-use Rattle.units.specs.Tests.{Test, passes, tested}
+use Rattle.units.specs.Tests.{Test, passes, tested, passes-both, passes-every}
 use Rattle.slots.specs.Moves.{vacant-other}
 use Rattle.slots.specs.Seats.{Seated, seat-taken}
 use Rattle.slots.specs.Sits.{slot-beyond}
@@ -27,7 +27,7 @@ use Rattle.recorder.specs.Calls.{spanTests, unclean, Found, foundIn, found, hit
 use Rattle.recorder.specs.Rules.{standing}
 use Rattle.recorder.specs.World.{World, Reply, refuse, accept, setBase, pageSize, slotCount, waitOf, metadata, slotBytes, baseBytes, slotFor}
 use Rattle.promises.specs.AlikeSlices.{lent-next, lent-slots, span-same, page-same, pages-same, span-read}
-use Rattle.promises.specs.Agree.{Agree, last, next, agree-same, agree-append, agree-passes, agree-tested, passes-every, passes-behind}
+use Rattle.promises.specs.Agree.{Agree, last, next, agree-same, agree-append, agree-passes, agree-tested}
 use Rattle.promises.specs.Alike.{withSlices, Lent, Alike, same-entries, same-kind, same-base, same-slot, in-file, ruled-slices}
 use Rattle.promises.specs.Facts.{Ruled, ruled-passes, seats, end-small}
 use Rattle.promises.specs.Fronts.{Front, front-part, front-lay, front-set}
@@ -70,7 +70,7 @@ module _ (w v : World) (r : Ruled w) (l : Lent w v) where
   -- a call: the tests of every call, its own, and what it does
   pub both-tested : (bs : List ℕ) (x y : Reply) (ts us : List Test) → Agree ts us → (passes ts ≡ true → Both x y)
       → Both (tested (standing w ++ ts) (refuse w bs) x) (tested (standing (withSlices w v) ++ us) (refuse (withSlices w v) bs) y)
-  both-tested bs x y ts us a f = agree-tested Both (refuse w bs) (refuse (withSlices w v) bs) x y (both-refused bs) (agree-append agree-standing a) (λ h. f (passes-behind (standing w) ts h))
+  both-tested bs x y ts us a f = agree-tested Both (refuse w bs) (refuse (withSlices w v) bs) x y (both-refused bs) (agree-append agree-standing a) (λ h. f ((passes-both (standing w) ts h .1)))
 
   -- where a page is found
   same-unclean : unclean w ≡ unclean (withSlices w v)

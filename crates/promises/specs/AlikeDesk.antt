@@ -17,7 +17,7 @@ use Rattle.octets.specs.Part.{part, lay}
 use Rattle.octets.specs.Rows.{row-in}
 use Rattle.units.specs.Refusals as Refusals
 use Rattle.units.specs.Sizes.{wait, entries, places, indexEnd, firstImage, imageAt, sideLength, baseLength}
-use Rattle.units.specs.Tests.{Test, passes, tested}
+use Rattle.units.specs.Tests.{Test, passes, tested, passes-both, passes-every}
 use Rattle.units.specs.declared.Place.{Place}
 use Rattle.units.specs.declared.Settings.{Settings}
 use Rattle.sidefile.specs.Accept.{whole-passes, front-passes}
@@ -28,7 +28,7 @@ use Rattle.sidefile.specs.declared.IndexEntry.{IndexEntry}
 use Rattle.recorder.specs.World.{World}
 use Rattle.desk.specs.Read.{refused, spanTests, readTests, heldEntry, located, deskRead}
 use Rattle.desk.specs.Take.{untaken, taken, takeTests, takeReply, sameSettings, withinLag, markOf, marksAfter, refreshTests, refreshReply}
-use Rattle.promises.specs.Agree.{Agree, last, next, agree-same, agree-append, agree-passes, agree-tested, passes-every, passes-behind}
+use Rattle.promises.specs.Agree.{Agree, last, next, agree-same, agree-append, agree-passes, agree-tested}
 use Rattle.promises.specs.Alike.{Lent, Alike, alike-by}
 use Rattle.promises.specs.AlikeGood.{same-index}
 use Rattle.promises.specs.Encoded.{encodes-good}
@@ -135,7 +135,7 @@ settings-same held t h =
 places-held : (held : List ℕ) → passes (heldTests held) ≡ true → Every (λ x. x .place .0 < places (headerOf held .settings)) (indexOf held)
 unfolding heldTests indexTests
 places-held held h =
-    let a = passes-behind (headerTests (holds (length held)) held) (indexTests held) (passes-behind (markTests held) (headerTests (holds (length held)) held ++ indexTests held) h) in
+    let a = (passes-both (headerTests (holds (length held)) held) (indexTests held) ((passes-both (markTests held) (headerTests (holds (length held)) held ++ indexTests held) h .1)) .1) in
     every-map (λ x k. ltb-true (x .place .0) (places (headerOf held .settings)) k) (indexOf held)
     (allOf-every (λ x. ltb (x .place .0) (places (headerOf held .settings))) (indexOf held) (head (tail (tail (passes-every (indexTests held) a)))))
 
@@ -207,7 +207,7 @@ module _ (w v : World) (g : Good w) (l : Lent w v) (held : List ℕ) (room : hea
   unfolding readTests spanTests heldEntry
   passed-same h =
       let ts : List Test = (Refusals.damaged, sameSettings hs (headerOf (w .side) .settings)) ∷ (Refusals.lag, withinLag (headerOf held) (headerOf (w .side))) ∷ spanTests (headerOf held) (w .base) p offset n in
-      let a = passes-every ts (passes-behind ((Refusals.state, passes (heldTests held)) ∷ frontTests (length (w .side)) (w .side)) ts h) in
+      let a = passes-every ts ((passes-both ((Refusals.state, passes (heldTests held)) ∷ frontTests (length (w .side)) (w .side)) ts h .1)) in
       let span = both (leb 1 n) (leb (offset + n) (hs .size)) (head (tail (tail (tail (tail a))))) in
       located-same (settings-held (head a)) (ltb-true p (headerOf held .end) (head (tail (tail (tail a))))) (leb-true (offset + n) (hs .size) (span .1)) (heldEntry (indexOf held) p)
       (λ x z. first-some (λ y. eqb (y .page .0) p) (indexOf held) x (places-held held (head (passes-every (readTests held (w .side) (w .base) p offset n) h))) z .1)

@@ -4,14 +4,13 @@
 use Prim.Native.Nat.{ℕ, _≤_}
 use mathlib.Core.Path.{_≡_, refl, sym, ap, subst}
 use mathlib.Core.Bool.{true}
-use mathlib.Core.List.{List, [], _∷_, _++_, map}
+use mathlib.Core.List.{List, [], _++_, map}
 use native.Mathlib.Omega.{arith}
 use lib.ListN.{length}
-use Rattle.lists.specs.Bools.{both, and-make}
 use Rattle.lists.specs.Scans.{allOf}
 use Rattle.octets.specs.Number.{Octets}
 use Rattle.units.specs.Sizes.{top, indexEnd, sideLength}
-use Rattle.units.specs.Tests.{Test, passes}
+use Rattle.units.specs.Tests.{passes, numbered, passes-both, tested-accepted}
 use Rattle.units.specs.declared.Settings.{Settings}
 use Rattle.sidefile.specs.Encode.{indexOf}
 use Rattle.slots.specs.Sits.{Whole}
@@ -29,7 +28,6 @@ use Rattle.promises.specs.ClosedRules.{front-closed, encodes-closed}
 use Rattle.promises.specs.Facts.{Ruled, passes-ruled, rule-back, kind-back}
 use Rattle.promises.specs.Opened.{good-open}
 use Rattle.promises.specs.Reached.{ruled-reply}
-use Rattle.promises.specs.Refused.{numbered, tested-accepted}
 use Rattle.promises.specs.Taken.{take-accepts, taken-index, takes, took-take, held-index}
 
 -- what the code's types say of a world: arrays of 16, a tick of 32 bits, a ledger of bytes
@@ -37,11 +35,6 @@ pub record Typed (w : World) : Type 0 where
   pub whole : Whole (w .state .slots)
   pub tick : w .state .closed .0 ≤ top
   pub octets : Octets (w .ledger)
-
-passes-first : (ts us : List Test) → passes (ts ++ us) ≡ true → passes ts ≡ true
-unfolding passes
-passes-first [] us h = refl
-passes-first (t ∷ ts) us h = let b = both (t .1) (passes (ts ++ us)) h in and-make (t .1) (passes ts) (b .0) (passes-first ts us (b .1))
 
 pub ruled : (w : World) → Typed w → passes (standing w) ≡ true → Ruled w
 unfolding entriesOf
@@ -60,15 +53,12 @@ module _ (w : World) where
 pub accepted-standing : (c : Call) (w : World) → reply c w .number ≡ 0 → passes (standing w) ≡ true
 unfolding reply readReply writeReply growReply closeReply
 accepted-standing (read p offset into) w h =
-    passes-first (standing w) (spanTests w p offset (length into))
-    (tested-accepted (refuse w into) _ (λ r. r .number) (λ n. refl) (standing w ++ spanTests w p offset (length into)) (numbered-span w p offset (length into)) h)
+    (passes-both (standing w) (spanTests w p offset (length into)) (tested-accepted (refuse w into) _ (λ r. r .number) (λ n. refl) (standing w ++ spanTests w p offset (length into)) (numbered-span w p offset (length into)) h) .0)
 accepted-standing (write p offset bs) w h =
-    passes-first (standing w) (spanTests w p offset (length bs))
-    (tested-accepted (refuse w bs) _ (λ r. r .number) (λ n. refl) (standing w ++ spanTests w p offset (length bs)) (numbered-span w p offset (length bs)) h)
+    (passes-both (standing w) (spanTests w p offset (length bs)) (tested-accepted (refuse w bs) _ (λ r. r .number) (λ n. refl) (standing w ++ spanTests w p offset (length bs)) (numbered-span w p offset (length bs)) h) .0)
 accepted-standing (grow kind) w h =
-    passes-first (standing w) (growTests w kind)
-    (tested-accepted (refuse w []) _ (λ r. r .number) (λ n. refl) (standing w ++ growTests w kind) (numbered-grow w kind) h)
-accepted-standing close w h = passes-first (standing w) (closeTests w) (close-accepted w h .passed)
+    (passes-both (standing w) (growTests w kind) (tested-accepted (refuse w []) _ (λ r. r .number) (λ n. refl) (standing w ++ growTests w kind) (numbered-grow w kind) h) .0)
+accepted-standing close w h = (passes-both (standing w) (closeTests w) (close-accepted w h .passed) .0)
 
 -- the state rules after it
 pub rules-after : (c : Call) (w : World) → Typed w → reply c w .number ≡ 0
@@ -95,7 +85,7 @@ close-taken w t h = let c = close-accepted w h in subst Takeable (sym (c .is)) (
   where
     go : Closes w → Takeable (closed w)
     go c held room =
-        let r = ruled w t (passes-first (standing w) (closeTests w) (c .passed)) in
+        let r = ruled w t ((passes-both (standing w) (closeTests w) (c .passed) .0)) in
         let s = w .state .settings in
         let e = encodes-closed w r (c .enough) (c .early) in
         let f = front-closed w r (c .enough) (c .early) in

@@ -5,7 +5,7 @@ use Prim.Native.Nat.{ℕ}
 use mathlib.Core.List.{List, [], _∷_}
 use Rattle.sidefile.specs.Encode.{indexOf}
 use Rattle.sidefile.specs.declared.IndexEntry.{IndexEntry}
-use Rattle.recorder.specs.World.{World, Reply}
+use Rattle.recorder.specs.World.{World}
 use Rattle.recorder.specs.Calls.{openReply}
 use Rattle.recorder.specs.Runs.{close, run}
 use Rattle.desk.specs.Take.{Taken, refreshReply}

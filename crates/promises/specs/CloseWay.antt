@@ -2,24 +2,19 @@
 use Prim.Native.Nat.{_<_}
 use mathlib.Core.Path.{_≡_, refl, sym, ap, subst}
 use mathlib.Core.Bool.{true, _&&_}
-use mathlib.Core.List.{List, [], _∷_, _++_}
+use mathlib.Core.List.{[], _++_}
 use native.Mathlib.Decide.{ℕ-discrete}
 use lib.Dec.{ltb}
 use borrow.Author.Tests.{ltb-true}
 use Rattle.lists.specs.Bools.{both}
 use Rattle.lists.specs.Scans.{allOf}
 use Rattle.units.specs.Sizes.{top}
-use Rattle.units.specs.Tests.{Test, passes, tested-passes}
+use Rattle.units.specs.Tests.{passes, tested-passes, numbered, passes-both, tested-accepted}
 use Rattle.recorder.specs.World.{World, Reply, refuse, accept}
 use Rattle.recorder.specs.Rules.{standing}
 use Rattle.recorder.specs.Close.{closed, suffices, closeTests, closeReply}
 use Rattle.recorder.specs.Runs.{close, reply}
-use Rattle.promises.specs.Refused.{numbered, tested-accepted, refused-same}
-
-passes-later : (ts us : List Test) → passes (ts ++ us) ≡ true → passes us ≡ true
-unfolding passes
-passes-later [] us h = h
-passes-later (t ∷ ts) us h = passes-later ts us (both (t .1) (passes (ts ++ us)) h .1)
+use Rattle.promises.specs.Refused.{refused-same}
 
 -- an accepted close
 pub record Closes (w : World) : Type 0 where
@@ -37,7 +32,7 @@ module _ (w : World) where
   unfolding closeReply passes closeTests
   close-accepted h =
       let p = tested-accepted (refuse w []) (accept (closed w) []) (λ r. r .number) (λ n. refl) (standing w ++ closeTests w) numbered-close h in
-      let a = both (ltb (w .state .closed .0) top) (suffices w && true) (passes-later (standing w) (closeTests w) p) in
+      let a = both (ltb (w .state .closed .0) top) (suffices w && true) ((passes-both (standing w) (closeTests w) p .1)) in
       record {
         passed = p;
         early = ltb-true (w .state .closed .0) top (a .0);

@@ -12,7 +12,7 @@ use Rattle.lists.specs.Bools.{if-then}
 use Rattle.octets.specs.Part.{part}
 use Rattle.units.specs.Sizes.{indexEnd}
 use Rattle.units.specs.Refusals as Refusals
-use Rattle.units.specs.Tests.{tested}
+use Rattle.units.specs.Tests.{tested, tested-behind}
 use Rattle.units.specs.declared.Settings.{Settings}
 use Rattle.sidefile.specs.Judge.{wholeTests}
 use Rattle.sidefile.specs.Lengths.{indexEnd-named}
@@ -24,7 +24,6 @@ use Rattle.promises.specs.Demand.{later, HoldsIndex}
 use Rattle.promises.specs.Good.{Good}
 use Rattle.promises.specs.Reached.{good-reply, good-run, good-reached, tick-reply, tick-run, side-reply, settings-run, settings-reached}
 use Rattle.promises.specs.Refreshed.{refresh-is-take}
-use Rattle.promises.specs.Refused.{tested-behind}
 use Rattle.promises.specs.Taken.{Took, side-header, side-accepted, took-take}
 
 -- while no tick is closed, the side file is not written

@@ -17,7 +17,7 @@ use Rattle.octets.specs.Part.{part, part-part}
 use Rattle.octets.specs.Rows.{row, page}
 use Rattle.units.specs.Refusals as Refusals
 use Rattle.units.specs.Sizes.{wait, entries, indexEnd, firstImage, imageAt}
-use Rattle.units.specs.Tests.{Test, passes, tested}
+use Rattle.units.specs.Tests.{Test, passes, tested, tested-behind, tested-same}
 use Rattle.units.specs.declared.Settings.{Settings}
 use Rattle.units.specs.declared.Tick.{Tick}
 use Rattle.sidefile.specs.Encode.{imageSum, named, headerOf, indexOf}
@@ -32,7 +32,6 @@ use Rattle.recorder.specs.World.{World, pageSize, entriesOf, kindOf, baseBytes,
 use Rattle.desk.specs.Take.{sameSettings, withinLag}
 use Rattle.desk.specs.Read.{Answer, refused, spanTests, readTests, heldEntry, located, deskRead}
 use Rattle.promises.specs.Good.{Good, Kept}
-use Rattle.promises.specs.Refused.{tested-same, tested-behind}
 use Rattle.promises.specs.Taken.{headerRead, Took, indexIn, headerIn, held-header, held-index, held-accepted, side-header, front-accepted}
 
 -- what a desk with this buffer reads in the files of a world; a world that is closed within the lag of another

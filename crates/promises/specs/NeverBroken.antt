@@ -12,7 +12,7 @@ use borrow.Author.Tests.{leb-true}
 use lib.ListN.{length}
 use Rattle.lists.specs.Bools.{if-then, both}
 use Rattle.lists.specs.Scans.{allOf}
-use Rattle.units.specs.Tests.{Test, tested}
+use Rattle.units.specs.Tests.{Test, tested, tested-behind}
 use Rattle.slots.specs.Table.{Seat, seated}
 use Rattle.recorder.specs.World.{World, Reply, refuse, slotCount, metadata}
 use Rattle.recorder.specs.Rules.{standing}
@@ -21,7 +21,6 @@ use Rattle.recorder.specs.Close.{closeTests, closeReply}
 use Rattle.recorder.specs.Runs.{Call, read, write, grow, close, reply, Recording, opening, reached}
 use Rattle.promises.specs.Facts.{Ruled, ruled-passes}
 use Rattle.promises.specs.Reached.{good-reached}
-use Rattle.promises.specs.Refused.{tested-behind}
 
 -- a number other than 2 and 3
 abbrev Fine : Reply → Type 0

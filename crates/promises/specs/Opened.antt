@@ -14,7 +14,7 @@ use Rattle.octets.specs.Part.{part, length-lay, part-lay-same}
 use Rattle.units.specs.Ages.{tick}
 use Rattle.units.specs.Bounds.{Within, limits-within, firstImage-least}
 use Rattle.units.specs.Sizes.{top, limits, indexEnd, ledgerLength}
-use Rattle.units.specs.Tests.{passes, tested-passes}
+use Rattle.units.specs.Tests.{passes, tested-passes, tested-accepted}
 use Rattle.units.specs.declared.Settings.{Settings}
 use Rattle.sidefile.specs.Encode.{headerFor, indexBytes}
 use Rattle.sidefile.specs.Lengths.{length-encoded}
@@ -30,7 +30,6 @@ use Rattle.recorder.specs.Rules.{longEnough}
 use Rattle.recorder.specs.Calls.{openState, openTests, opened, openReply}
 use Rattle.promises.specs.Facts.{RuleFacts, Lengths, long-facts, KindFacts, Ruled}
 use Rattle.promises.specs.Good.{frontAt, Good}
-use Rattle.promises.specs.Refused.{tested-accepted}
 
 -- kind bytes that are all 0 or 1; past the table's end a kind reads as 0
 kinds-two : (n : ℕ) (ks : List ℕ) → allOf (λ k. ltb k 2) (take n ks) ≡ true → (p : ℕ) → p < n → getD ks p 0 < 2

@@ -13,14 +13,13 @@ use lib.Seq.{getD-append-add, getD-drop}
 use borrow.Author.Tests.{lt-ltb, le-leb, eqb-true, ltb-true, leb-true}
 use Rattle.lists.specs.Below.{below, length-from, get-from}
 use Rattle.lists.specs.Bools.{if-then, both, and-make}
-use Rattle.lists.specs.Scans.{Every, done, more, head, tail, allOf, anyOf, first, none-first}
+use Rattle.lists.specs.Scans.{head, tail, allOf, anyOf, first, none-first}
 use Rattle.octets.specs.Part.{part, lay}
 use Rattle.units.specs.Refusals as Refusals
 use Rattle.units.specs.Sizes.{wait, entries, indexEnd}
-use Rattle.units.specs.Tests.{Test, passes, tested-passes}
+use Rattle.units.specs.Tests.{passes, tested-passes, passes-append, passes-both, passes-every, tested-accepted}
 use Rattle.units.specs.declared.Settings.{Settings}
 use Rattle.units.specs.declared.Tick.{Tick}
-use Rattle.sidefile.specs.Accept.{passes-append}
 use Rattle.sidefile.specs.Encode.{headerOf, indexOf}
 use Rattle.sidefile.specs.Judge.{ascending, holds, markTests, headerTests, indexTests, wholeTests, heldTests}
 use Rattle.sidefile.specs.declared.Header.{Header}
@@ -33,23 +32,8 @@ use Rattle.recorder.specs.World.{World, entriesOf}
 use Rattle.desk.specs.Take.{Taken, untaken, heldLength, taken, takeTests, takeReply, sameSettings, markOf, marksAfter, refreshTests, refreshReply}
 use Rattle.promises.specs.Encoded.{encodes-good}
 use Rattle.promises.specs.Good.{Good}
-use Rattle.promises.specs.Refused.{tested-accepted}
 use Rattle.promises.specs.Taken.{Took, indexIn, taken-is, took-take, held-header, held-accepted, held-long, side-header, side-index, side-accepted}
 use Rattle.promises.specs.Lagging.{InLag, settings-held, lag-held}
-
--- tests that pass together pass one by one, and in both parts
-passes-every : (ts : List Test) → passes ts ≡ true → Every (λ t. t .1 ≡ true) ts
-unfolding passes
-passes-every [] h = done
-passes-every (t ∷ ts) h = let b = both (t .1) (passes ts) h in more (b .0) (passes-every ts (b .1))
-
-passes-both : (ts us : List Test) → passes (ts ++ us) ≡ true → (passes ts ≡ true) × (passes us ≡ true)
-unfolding passes
-passes-both [] us h = (refl, h)
-passes-both (t ∷ ts) us h =
-    let b = both (t .1) (passes (ts ++ us)) h in
-    let r = passes-both ts us (b .1) in
-    (and-make (t .1) (passes ts) (b .0) (r .0), r .1)
 
 -- a held buffer that passes its tests has the length that its settings ask for
 held-fits : (held : List ℕ) → passes (heldTests held) ≡ true → indexEnd (headerOf held .settings) ≤ length held

@@ -1,20 +1,17 @@
 -- A refused call changes no byte and no count, whatever it is given: forged states and damaged files among it. And what an
 -- accepted call says of its tests. Assumes nothing.
-use Prim.Native.Nat.{ℕ, _<_}
-use mathlib.Core.Path.{_≡_, refl, _∙_}
-use mathlib.Core.Bool.{Bool, true, false, _&&_}
-use mathlib.Core.List.{List, [], _∷_, _++_}
+use Prim.Native.Nat.{ℕ}
+use mathlib.Core.Path.{_≡_, refl}
+use mathlib.Core.Bool.{Bool, true, false}
+use mathlib.Core.List.{List, [], _++_}
 use mathlib.Core.Logic.{_⊎_, inl, inr}
 use mathlib.Core.Option.{Option, some, none}
-use lib.Dec.{eqb, ltb}
-use borrow.Author.Tests.{ltb-true}
-use native.Mathlib.Omega.{arith}
+use lib.Dec.{eqb}
 use lib.ListN.{length}
-use Rattle.lists.specs.Bools.{if-then, both}
-use Rattle.lists.specs.Scans.{allOf}
+use Rattle.lists.specs.Bools.{if-then}
 use Rattle.octets.specs.Part.{part}
 use Rattle.units.specs.Sizes.{imageAt}
-use Rattle.units.specs.Tests.{Test, passes, tested, tested-passes, tested-append}
+use Rattle.units.specs.Tests.{Test, tested, tested-has}
 use Rattle.units.specs.declared.Settings.{Settings}
 use Rattle.sidefile.specs.Encode.{imageSum, headerOf, indexOf}
 use Rattle.sidefile.specs.declared.IndexEntry.{IndexEntry}
@@ -31,49 +28,6 @@ use Rattle.desk.specs.Read.{Answer, refused, readTests, heldEntry, located, des
 if-has : {R : Type 0} (P : R → Type 0) (b : Bool) (r s : R) → P r → P s → P (if-then b r s)
 if-has P true r s h k = h
 if-has P false r s h k = k
-
--- a test with a number of its own: 0 is an accepted call
-abbrev pub numbered : Test → Bool
-numbered t = ltb 0 (t .0)
-
-module _ {R : Type 0} (no : ℕ → R) (yes : R) where
-  -- what holds of every refusal, and of what is answered if all tests pass, holds of the answer
-  pub tested-has : (P : R → Type 0) → ((n : ℕ) → P (no n)) → P yes → (ts : List Test) → P (tested ts no yes)
-  unfolding tested
-  tested-has P f p [] = p
-  tested-has P f p (t ∷ ts) = if-has P (t .1) (tested ts no yes) (no (t .0)) (tested-has P f p ts) (f (t .0))
-
-  -- an answer whose number is that of no test has passed them all
-  pub tested-accepted : (number : R → ℕ) → ((n : ℕ) → number (no n) ≡ n) → (ts : List Test) → allOf numbered ts ≡ true
-      → number (tested ts no yes) ≡ 0
-      → passes ts ≡ true
-  unfolding tested passes allOf
-  tested-accepted number f [] e h = refl
-  tested-accepted number f (t ∷ ts) e h =
-      let b = both (numbered t) (allOf numbered ts) e in
-      go (t .1) h (ltb-true 0 (t .0) (b .0)) (tested-accepted number f ts (b .1))
-    where
-      go : (b : Bool) → number (if-then b (tested ts no yes) (no (t .0))) ≡ 0 → 0 < t .0
-          → (number (tested ts no yes) ≡ 0 → passes ts ≡ true)
-          → (b && passes ts) ≡ true
-      go true h p ih = ih h
-      go false h p ih = absurd (omega (arith, f (t .0)))
-
-  -- two answers to the same tests are equal, if they are where all tests pass
-  pub tested-same : (other : R) (ts : List Test) → (passes ts ≡ true → yes ≡ other) → tested ts no yes ≡ tested ts no other
-  unfolding tested passes
-  tested-same other [] h = h refl
-  tested-same other (t ∷ ts) h = go (t .1) h (tested-same other ts)
-    where
-      go : (b : Bool) → ((b && passes ts) ≡ true → yes ≡ other)
-          → ((passes ts ≡ true → yes ≡ other) → tested ts no yes ≡ tested ts no other)
-          → if-then b (tested ts no yes) (no (t .0)) ≡ if-then b (tested ts no other) (no (t .0))
-      go true h ih = ih h
-      go false h ih = refl
-
-  -- tests that pass may be left out
-  pub tested-behind : (ts us : List Test) → passes ts ≡ true → tested (ts ++ us) no yes ≡ tested us no yes
-  tested-behind ts us p = tested-append no yes ts us ∙ tested-passes no (tested us no yes) ts p
 
 -- The recorder's calls: accepted, or with the world and the caller's slice that were given.
 

@@ -14,7 +14,7 @@ use Rattle.lists.specs.Scans.{allOf, every-two, first-some}
 use Rattle.octets.specs.Part.{part}
 use Rattle.octets.specs.Rows.{page}
 use Rattle.units.specs.Refusals as Refusals
-use Rattle.units.specs.Tests.{passes, tested, tested-passes}
+use Rattle.units.specs.Tests.{passes, tested, tested-passes, tested-accepted}
 use Rattle.sidefile.specs.Encode.{imageSum}
 use Rattle.slots.specs.Order.{not-some}
 use Rattle.slots.specs.Sits.{slot-found, slot-occupied}
@@ -25,7 +25,6 @@ use Rattle.recorder.specs.World.{World, pageSize, entriesOf, kindOf, slotCount,
 use Rattle.desk.specs.Read.{Answer, refused}
 use Rattle.promises.specs.Facts.{EntryFacts, end-small}
 use Rattle.promises.specs.Good.{view, viewBy, contents, hasBy, Good, Kept}
-use Rattle.promises.specs.Refused.{tested-accepted}
 use Rattle.promises.specs.Taken.{Took}
 use Rattle.promises.specs.Lagging.{deskIn, InLag, pageTests, page-passes, answerBy, answer, reads, same-answer}
 

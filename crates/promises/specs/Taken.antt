@@ -12,10 +12,10 @@ use Rattle.lists.specs.Bools.{and-make}
 use Rattle.octets.specs.Part.{part, lay, part-lay-same}
 use Rattle.units.specs.Refusals as Refusals
 use Rattle.units.specs.Sizes.{entries, indexEnd, sideLength}
-use Rattle.units.specs.Tests.{passes, tested-passes}
+use Rattle.units.specs.Tests.{passes, tested-passes, passes-append}
 use Rattle.units.specs.declared.Settings.{Settings}
 use Rattle.units.specs.declared.Tick.{Tick}
-use Rattle.sidefile.specs.Accept.{passes-append, file-header, file-index, file-long, whole-passes, front-passes, held-passes}
+use Rattle.sidefile.specs.Accept.{file-header, file-index, file-long, whole-passes, front-passes, held-passes}
 use Rattle.sidefile.specs.Decode.{Encodes}
 use Rattle.sidefile.specs.Encode.{named, headerFor, indexBytes, headerOf, indexOf}
 use Rattle.sidefile.specs.Judge.{wholeTests, frontTests, heldTests}

@@ -14,12 +14,11 @@ use Rattle.lists.specs.Bools.{if-then, both}
 use Rattle.lists.specs.Scans.{allOf}
 use Rattle.octets.specs.Part.{lay}
 use Rattle.units.specs.Refusals as Refusals
-use Rattle.units.specs.Tests.{Test, passes, tested}
+use Rattle.units.specs.Tests.{Test, passes, tested, numbered, passes-both}
 use Rattle.slots.specs.Table.{Seat, seated}
 use Rattle.recorder.specs.World.{World, Reply, refuse, accept, pageSize, slotCount, kindOf, metadata, slotFor, setBase}
 use Rattle.recorder.specs.Rules.{standing}
 use Rattle.recorder.specs.Calls.{spanTests, unclean, Found, nowhere, foundIn, found, hitWorld, missWorld, metaBypass, rawBypass, spanIn, laidIn, readFound, readReply, written, writeFound, writeReply, growTests, grown, zeroPage, growSeated, growReply}
-use Rattle.promises.specs.Refused.{numbered}
 
 -- a call whose tests have numbers above 0: refused by such a number, or all of them pass
 module _ (P : Reply → Type 0) (refused : ℕ → Reply) (r : Reply) where
@@ -31,11 +30,6 @@ module _ (P : Reply → Type 0) (refused : ℕ → Reply) (r : Reply) where
       go : (b : Bool) → 0 < t .0 → ((b && passes ts) ≡ true → P r) → ((passes ts ≡ true → P r) → P (tested ts refused r)) → P (if-then b (tested ts refused r) (refused (t .0)))
       go true n g ih = ih g
       go false n g ih = f (t .0) (omega arith)
-
-passes-later : (ts us : List Test) → passes (ts ++ us) ≡ true → passes us ≡ true
-unfolding passes
-passes-later [] us h = h
-passes-later (t ∷ ts) us h = passes-later ts us (both (t .1) (passes (ts ++ us)) h .1)
 
 -- what the tests of a span say of it
 pub record Span (w : World) (p offset n : ℕ) : Type 0 where
@@ -52,7 +46,7 @@ module _ (w : World) (p offset n : ℕ) where
   span-facts : passes (standing w ++ spanTests w p offset n) ≡ true → Span w p offset n
   unfolding passes spanTests
   span-facts h =
-      let a = both (ltb p (w .state .end)) (ltb (kindOf w p) 2 && ((leb 1 n && leb (offset + n) (pageSize w)) && true)) (passes-later (standing w) (spanTests w p offset n) h) in
+      let a = both (ltb p (w .state .end)) (ltb (kindOf w p) 2 && ((leb 1 n && leb (offset + n) (pageSize w)) && true)) ((passes-both (standing w) (spanTests w p offset n) h .1)) in
       let b = both (ltb (kindOf w p) 2) ((leb 1 n && leb (offset + n) (pageSize w)) && true) (a .1) in
       let c = both (leb 1 n && leb (offset + n) (pageSize w)) true (b .1) in
       let d = both (leb 1 n) (leb (offset + n) (pageSize w)) (c .0) in
@@ -140,7 +134,7 @@ module _ (w : World) (kind : ℕ) where
   grow-facts : passes (standing w ++ growTests w kind) ≡ true → (kind < 2) × (w .state .end < w .state .settings .capacity)
   unfolding passes growTests
   grow-facts h =
-      let a = both (ltb kind 2) (ltb (w .state .end) (w .state .settings .capacity) && true) (passes-later (standing w) (growTests w kind) h) in
+      let a = both (ltb kind 2) (ltb (w .state .end) (w .state .settings .capacity) && true) ((passes-both (standing w) (growTests w kind) h .1)) in
       let b = both (ltb (w .state .end) (w .state .settings .capacity)) true (a .1) in
       (ltb-true kind 2 (a .0), ltb-true (w .state .end) (w .state .settings .capacity) (b .0))
 

@@ -3,18 +3,17 @@
 use Prim.Native.Nat.{ℕ, zero, suc, _+_, _-_, _*_, _≤_}
 use mathlib.Core.Path.{_≡_, refl, _∙_, sym, ap}
 use mathlib.Core.Bool.{Bool, true}
-use mathlib.Core.List.{List, [], _∷_, _++_}
+use mathlib.Core.List.{List, _++_}
 use native.Mathlib.Omega.{arith}
 use lib.Dec.{eqb, ltb, leb}
 use lib.ListN.{length, take, drop, replicate, length-append, length-replicate, take-append-drop}
 use lib.Seq.{take-at, drop-at, drop-drop}
 use borrow.Author.Tests.{eq-eqb, lt-ltb, le-leb}
-use Rattle.lists.specs.Bools.{and-make, both}
-use Rattle.lists.specs.Scans.{Every, done, more, head, tail, allOf, every-allOf}
+use Rattle.lists.specs.Scans.{Every, done, more, allOf, every-allOf}
 use Rattle.octets.specs.Number.{le, bytes, le16, le32}
 use Rattle.octets.specs.Part.{part, part-zero}
 use Rattle.units.specs.Sizes.{headerLength, indexRow, limits, entries, places, indexEnd, sideLength}
-use Rattle.units.specs.Tests.{Test, passes}
+use Rattle.units.specs.Tests.{passes, every-passes, passes-append}
 use Rattle.units.specs.declared.Settings.{Settings}
 use Rattle.units.specs.declared.Tick.{Tick}
 use Rattle.sidefile.specs.declared.Header.{Header}
@@ -23,19 +22,6 @@ use Rattle.sidefile.specs.Encode.{checksum, named, headerFront, headerBy
 use Rattle.sidefile.specs.Judge.{ascending, apart, markTests, headerTests, indexTests, reaches, holds, wholeTests, frontTests, heldTests}
 use Rattle.sidefile.specs.Lengths.{length-indexRows, length-encoded, limits-named, entries-named, places-named, indexEnd-named, sideLength-named}
 use Rattle.sidefile.specs.Decode.{Encodes, encoded, header-sum, index-sum, zeros-back, header-back, behind-header, index-back}
-
--- tests that pass one by one, and one list of tests behind another
-every-passes : (ts : List Test) → Every (λ t. t .1 ≡ true) ts → passes ts ≡ true
-unfolding passes
-every-passes [] e = refl
-every-passes (t ∷ ts) e = and-make (t .1) (passes ts) (head e) (every-passes ts (tail e))
-
-pub passes-append : (ts us : List Test) → passes ts ≡ true → passes us ≡ true → passes (ts ++ us) ≡ true
-unfolding passes
-passes-append [] us p q = q
-passes-append (t ∷ ts) us p q =
-    let b = both (t .1) (passes ts) p in
-    and-make (t .1) (passes (ts ++ us)) (b .0) (passes-append ts us (b .1) q)
 
 -- spare entries
 all-zero : (n : ℕ) → allOf (eqb 0) (replicate n 0) ≡ true
