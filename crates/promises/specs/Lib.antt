@@ -8,6 +8,7 @@ pub mod AlikeRecordings
 pub mod AlikeRuns
 pub mod AlikeSlices
 pub mod AnyWorld
+pub mod Changing
 pub mod Clause
 pub mod CloseWay
 pub mod Closed
@@ -41,10 +42,12 @@ pub mod Refreshed
 pub mod Refused
 pub mod Rows
 pub mod Settled
+pub mod Since
 pub mod Snapshot
 pub mod Stepped
 pub mod Steps
 pub mod Stored
 pub mod Taken
+pub mod Unmarked
 pub mod Ways
 pub mod Writing
