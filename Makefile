@@ -1,6 +1,7 @@
 # make demo    the main job
 # make test    every proof, must-fail edit and test; the last line is 'N passed, 0 failed'
 # make bench   the measurements, as ratios
+# make mutants wrong definitions, each of which a proof must refuse
 
 CC ?= cc
 CFLAGS ?= -O2
@@ -8,7 +9,7 @@ WARN = -std=c11 -Wall -Wextra -Werror
 LIBS = target/staticlib/libcabi.a
 TESTS = $(patsubst c/test/%.c,build/c/%,$(wildcard c/test/test_*.c))
 
-.PHONY: demo test bench c-tests clean
+.PHONY: demo test bench mutants c-tests clean
 
 # Proves and builds all there is, and shows what the checksum gives for the published vectors.
 demo:
@@ -39,6 +40,9 @@ build/bench/copy: c/bench/bench_copy.c target/staticlib/libleaves.a
 bench: build/bench/lookup3 build/bench/copy
 	@build/bench/lookup3
 	@build/bench/copy
+
+mutants:
+	@tools/mutants
 
 clean:
 	rm -rf build target rust/target

@@ -44,10 +44,13 @@ entries s = (wait s + 1) * s .slots
 unfoldable pub places : Settings → ℕ
 places s = (2 * wait s + 1) * s .slots
 
--- the side file: where the index ends, which is also how long a held buffer is; where image place 0 begins; where a place
--- begins; and the end of image place M - 1
+-- the side file: where the index ends; how much of it a held buffer has, header and index; where image place 0 begins; where
+-- a place begins; and the end of image place M - 1
 unfoldable pub indexEnd : Settings → ℕ
 indexEnd s = headerLength + indexRow * entries s
+
+abbrev pub heldLength : Settings → ℕ
+heldLength s = indexEnd s
 
 unfoldable pub firstImage : Settings → ℕ
 firstImage s = (indexEnd s + (s .size - 1)) / s .size * s .size

@@ -105,12 +105,20 @@ impl Settings {
         (2 * wide(self.wait()) + 1) * wide(self.slots)
     }
 
-    // Where the index ends in a side file. A held buffer is as long.
+    // Where the index ends in a side file.
     pub fn index_end(self) -> usize
         requires { ⌜ Sizes.limits self ≡ true ⌝ }
         ensures { λ r. ⌜ (r ≡ Sizes.indexEnd self) × (r ≤ 2340) ⌝ }
     {
         Settings::HEADER_LENGTH + Settings::INDEX_ROW * self.entries()
+    }
+
+    // How long a held buffer is at least.
+    pub fn held_length(self) -> usize
+        requires { ⌜ Sizes.limits self ≡ true ⌝ }
+        ensures { λ r. ⌜ (r ≡ Sizes.heldLength self) × (r ≤ 2340) ⌝ }
+    {
+        self.index_end()
     }
 
     // Where image place 0 begins: the end of the index, rounded up to whole pages.
