@@ -1,3 +1,6 @@
+pub mod Answers
+pub mod Asked
+pub mod Judged
 pub mod Moves
 pub mod Order
 pub mod Rules

@@ -1,0 +1,191 @@
+-- What one turn of a loop does to each search of the table: of the slots, from i on, and of the order of use, from k on.
+-- Assumes nothing.
+use Prim.Native.Nat.{ℕ, suc, _+_, _-_, _<_, _≤_}
+use mathlib.Core.Path.{_≡_, refl, _∙_, sym, ap}
+use mathlib.Core.List.{List, [], _∷_, map}
+use mathlib.Core.Bool.{Bool, true, false, _&&_}
+use mathlib.Core.Option.{Option, some, none}
+use native.Mathlib.Nat.{sub-zero}
+use native.Mathlib.Numerals.{add-one}
+use native.Mathlib.Decide.{decLt}
+use native.Mathlib.Omega.{arith}
+use lib.Dec.{eqb}
+use lib.ListN.{length, take, drop, getD, length-map, drop-of-length-le, List·getD-map}
+use lib.Seq.{drop-cons, getD-take, length-take-le}
+use borrow.Author.Tests.{eq-eqb, ne-eqb, lt-ltb, le-ltb}
+use Rattle.lists.specs.Below.{from}
+use Rattle.lists.specs.Scans.{anyOf, allOf, first}
+use Rattle.units.specs.declared.Page.{Page}
+use Rattle.slots.specs.Table.{toPage, noPage, pageAt, vacant, changedAt, slotOf, changedPage, uses, times, orElse, victimIn, victim}
+use Rattle.slots.specs.Judged.{listed, rowKept}
+use Rattle.slots.specs.declared.Slots.{Slots}
+
+-- what owning an array of pages says of its length
+pub length-mapped : {A B : Type 0} (f : A → B) (l : List A) (n : ℕ) → length (map f l) ≡ n → length l ≡ n
+length-mapped f l n e = sym (length-map l f) ∙ e
+
+from-here : (n i : ℕ) → i < n → from i (n - i) ≡ i ∷ from (i + 1) (n - (i + 1))
+unfolding from
+from-here n i h = let e : n - i ≡ suc (n - (i + 1)) = omega arith in rw (e, add-one i)
+
+from-end : (n i : ℕ) → n ≤ i → from i (n - i) ≡ []
+unfolding from
+from-end n i h = let e : n - i ≡ 0 = omega arith in rw e
+
+-- the slot of page p, and whether one with p is changed, from slot i on
+module _ (S : ℕ) (t : Slots) (p : ℕ) where
+  unfoldable pub slotFrom : ℕ → Option ℕ
+  slotFrom i = first (λ j. eqb (pageAt t j) p) (from i (S - i))
+
+  unfoldable pub changedFrom : ℕ → Bool
+  changedFrom i = anyOf (λ j. eqb (pageAt t j) p && changedAt t j) (from i (S - i))
+
+  pub slot-start : slotOf S t p ≡ slotFrom 0
+  unfolding slotOf slotFrom
+  slot-start = rw sub-zero
+
+  pub changed-start : changedPage S t p ≡ changedFrom 0
+  unfolding changedPage changedFrom
+  changed-start = rw sub-zero
+
+  module _ (i : ℕ) where
+    pub slot-end : S ≤ i → slotFrom i ≡ none
+    unfolding slotFrom first
+    slot-end h = rw (from-end S i h)
+
+    pub changed-end : S ≤ i → changedFrom i ≡ false
+    unfolding changedFrom anyOf
+    changed-end h = rw (from-end S i h)
+
+    module _ (h : i < S) where
+      pub slot-here : getD (t .pages) i (toPage 0) .0 ≡ p → slotFrom i ≡ some i
+      unfolding slotFrom first pageAt
+      slot-here e = rw (from-here S i h, eq-eqb (pageAt t i) p e)
+
+      pub slot-next : (getD (t .pages) i (toPage 0) .0 ≡ p → ⊥) → slotFrom i ≡ slotFrom (i + 1)
+      unfolding slotFrom first pageAt
+      slot-next n = rw (from-here S i h, ne-eqb (pageAt t i) p n)
+
+      pub changed-here : getD (t .pages) i (toPage 0) .0 ≡ p → (getD (t .changed) i 0 ≡ 0 → ⊥) → changedFrom i ≡ true
+      unfolding changedFrom anyOf pageAt changedAt
+      changed-here e c = rw (from-here S i h, eq-eqb (pageAt t i) p e, ne-eqb (getD (t .changed) i 0) 0 c)
+
+      pub changed-next : getD (t .pages) i (toPage 0) .0 ≡ p → getD (t .changed) i 0 ≡ 0 → changedFrom i ≡ changedFrom (i + 1)
+      unfolding changedFrom anyOf pageAt changedAt
+      changed-next e c = rw (from-here S i h, eq-eqb (pageAt t i) p e, eq-eqb (getD (t .changed) i 0) 0 c)
+
+      pub changed-other : (getD (t .pages) i (toPage 0) .0 ≡ p → ⊥) → changedFrom i ≡ changedFrom (i + 1)
+      unfolding changedFrom anyOf pageAt
+      changed-other n = rw (from-here S i h, ne-eqb (pageAt t i) p n)
+
+-- a test of the numbers below n, from i on
+module _ (t : ℕ → Bool) (n i : ℕ) where
+  pub all-here : i < n → t i ≡ false → allOf t (from i (n - i)) ≡ false
+  unfolding allOf
+  all-here h e = rw (from-here n i h, e)
+
+  pub all-next : i < n → t i ≡ true → allOf t (from i (n - i)) ≡ allOf t (from (i + 1) (n - (i + 1)))
+  unfolding allOf
+  all-next h e = rw (from-here n i h, e)
+
+  pub all-end : n ≤ i → allOf t (from i (n - i)) ≡ true
+  unfolding allOf
+  all-end h = rw (from-end n i h)
+
+-- the test of one row: empty, past the slots, a slot whose page was counted
+module _ (S : ℕ) (t : Slots) (i : ℕ) where
+  pub row-empty : getD (t .pages) i (toPage 0) .0 ≡ noPage → getD (t .changed) i 0 ≡ 0 → rowKept S t i ≡ true
+  unfolding rowKept vacant pageAt changedAt
+  row-empty e c = rw (eq-eqb (pageAt t i) noPage e, eq-eqb (getD (t .changed) i 0) 0 c)
+
+  pub row-marked : getD (t .pages) i (toPage 0) .0 ≡ noPage → (getD (t .changed) i 0 ≡ 0 → ⊥) → rowKept S t i ≡ false
+  unfolding rowKept vacant pageAt changedAt
+  row-marked e c = rw (eq-eqb (pageAt t i) noPage e, ne-eqb (getD (t .changed) i 0) 0 c)
+
+  pub row-past : (getD (t .pages) i (toPage 0) .0 ≡ noPage → ⊥) → S ≤ i → rowKept S t i ≡ false
+  unfolding rowKept vacant pageAt
+  row-past n h = rw (ne-eqb (pageAt t i) noPage n, le-ltb i S h)
+
+  pub row-counted : (getD (t .pages) i (toPage 0) .0 ≡ noPage → ⊥) → i < S → (k u : ℕ) → k ≡ times (getD (t .pages) i (toPage 0) .0) (listed u (t .order)) → u ≡ t .used → rowKept S t i ≡ eqb k 1
+  unfolding rowKept vacant pageAt uses
+  row-counted n h k u e d = rw (ne-eqb (pageAt t i) noPage n, lt-ltb i S h, e, d)
+
+-- the first n pages of an array, from k on
+module _ (l : List Page) (n k : ℕ) (m : n ≤ length l) where
+  long : length (listed n l) ≡ n
+  long = length-map (take n l) (λ p. p .0) ∙ length-take-le n l m
+
+  listed-next : k < n → drop k (listed n l) ≡ getD l k (toPage 0) .0 ∷ drop (k + 1) (listed n l)
+  listed-next h =
+      rw (add-one k)
+      (drop-cons (listed n l) k 0 (omega (arith, long))
+      ∙ ap (λ (x : ℕ). x ∷ drop (suc k) (listed n l))
+      (List·getD-map (λ (p : Page). p .0) (take n l) k (toPage 0) ∙ ap (λ (p : Page). p .0) (getD-take n l k (toPage 0) h)))
+
+  listed-end : n ≤ k → drop k (listed n l) ≡ []
+  listed-end h = drop-of-length-le (listed n l) {i = k} (omega (arith, long))
+
+  -- how often p stands there
+  module _ (p : ℕ) where
+    pub times-end : n ≤ k → times p (drop k (listed n l)) ≡ 0
+    unfolding times
+    times-end h = rw (listed-end h)
+
+    pub times-this : k < n → getD l k (toPage 0) .0 ≡ p → times p (drop k (listed n l)) ≡ times p (drop (k + 1) (listed n l)) + 1
+    unfolding times
+    times-this h e = rw (listed-next h, eq-eqb (getD l k (toPage 0) .0) p e) (sym (add-one (times p (drop (k + 1) (listed n l)))))
+
+    pub times-past : n ≤ k → times p (drop k (listed n l)) ≡ times p (drop (k + 1) (listed n l))
+    unfolding times
+    times-past h = times-end h ∙ sym (ap (times p) (drop-of-length-le (listed n l) {i = k + 1} (omega (arith, long))))
+
+    pub times-other : (getD l k (toPage 0) .0 ≡ p → ⊥) → times p (drop k (listed n l)) ≡ times p (drop (k + 1) (listed n l))
+    unfolding times
+    times-other e = go (decLt k n)
+      where
+        go : Dec (k < n) → times p (drop k (listed n l)) ≡ times p (drop (k + 1) (listed n l))
+        go (yes h) = rw (listed-next h, ne-eqb (getD l k (toPage 0) .0) p e)
+        go (no h) = times-past (omega (arith, h))
+
+-- a test of the pages in the order of use, from the k-th on
+module _ (test : ℕ → Bool) (t : Slots) (k : ℕ) (m : t .used ≤ length (t .order)) where
+  pub uses-here : k < t .used → test (getD (t .order) k (toPage 0) .0) ≡ false → allOf test (drop k (uses t)) ≡ false
+  unfolding allOf uses
+  uses-here h e = rw (listed-next (t .order) (t .used) k m h, e)
+
+  pub uses-next : k < t .used → test (getD (t .order) k (toPage 0) .0) ≡ true → allOf test (drop k (uses t)) ≡ allOf test (drop (k + 1) (uses t))
+  unfolding allOf uses
+  uses-next h e = rw (listed-next (t .order) (t .used) k m h, e)
+
+  pub uses-end : t .used ≤ k → allOf test (drop k (uses t)) ≡ true
+  unfolding allOf uses
+  uses-end h = rw (listed-end (t .order) (t .used) k m h)
+
+-- the victim, from the k-th page in the order of use on
+module _ (S : ℕ) (mask : List Bool) (t : Slots) where
+  unfoldable pub victimFrom : ℕ → Option ℕ
+  victimFrom k = victimIn S (λ i. getD mask i false) t (drop k (uses t))
+
+  pub victim-start : victim S (λ i. getD mask i false) t ≡ victimFrom 0
+  unfolding victim victimFrom
+  victim-start = refl
+
+  module _ (k : ℕ) (m : t .used ≤ length (t .order)) where
+    pub victim-end : t .used ≤ k → victimFrom k ≡ none
+    unfolding victimFrom victimIn uses
+    victim-end h = rw (listed-end (t .order) (t .used) k m h)
+
+    module _ (h : k < t .used) where
+      next : victimFrom k ≡ orElse (slotOf S t (getD (t .order) k (toPage 0) .0)) (λ i. getD mask i false) (victimFrom (k + 1))
+      unfolding victimFrom victimIn uses
+      next = rw (listed-next (t .order) (t .used) k m h)
+
+      -- its page is in no slot, in a slot that is spared, in one that is not
+      pub victim-absent : slotOf S t (getD (t .order) k (toPage 0) .0) ≡ none → victimFrom k ≡ victimFrom (k + 1)
+      victim-absent e = next ∙ rw e
+
+      pub victim-spared : (i : ℕ) → slotOf S t (getD (t .order) k (toPage 0) .0) ≡ some i → getD mask i false ≡ true → victimFrom k ≡ victimFrom (k + 1)
+      victim-spared i e b = next ∙ rw (e, b)
+
+      pub victim-here : (i : ℕ) → slotOf S t (getD (t .order) k (toPage 0) .0) ≡ some i → getD mask i false ≡ false → victimFrom k ≡ some i
+      victim-here i e b = next ∙ rw (e, b)

@@ -1,0 +1,94 @@
+// What the table answers: the page and the flag of a slot, the slot of a page, the lowest empty slot, the victim. A search
+// looks at the first `slots` of the 16 rows.
+use crate::Found;
+use crate::Slots;
+use crate::wide;
+use units::Page;
+ghost use mathlib.Core.Path.{_≡_};
+ghost use mathlib.Core.Bool.{false};
+ghost use Prim.Native.Nat.{_≤_, _<_};
+ghost use lib.ListN.{getD};
+ghost use Rattle.slots.specs.Table as Table;
+ghost use Rattle.slots.specs.Answers.{toOption};
+
+impl Slots {
+    pub fn page_at(self, slot: usize) -> Page
+        requires { ⌜ slot < 16 ⌝ }
+        ensures { λ r. ⌜ r .0 ≡ Table.pageAt self slot ⌝ }
+    {
+        self.pages[slot]
+    }
+
+    pub fn is_changed(self, slot: usize) -> bool
+        requires { ⌜ slot < 16 ⌝ }
+        ensures { λ r. ⌜ r ≡ Table.changedAt self slot ⌝ }
+    {
+        self.changed[slot] != 0
+    }
+
+    pub fn slot_of(self, slots: usize, page: Page) -> Found
+        requires { ⌜ slots ≤ 16 ⌝ }
+        ensures { λ r. ⌜ toOption r ≡ Table.slotOf slots self (page .0) ⌝ }
+    {
+        let mut i: usize = 0;
+        while i < slots {
+            let held = self.pages[i];
+            if held.0 == page.0 {
+                return Found::At(i);
+            }
+            i += 1;
+        }
+        Found::Nothing
+    }
+
+    pub fn lowest_empty(self, slots: usize) -> Found
+        requires { ⌜ slots ≤ 16 ⌝ }
+        ensures { λ r. ⌜ toOption r ≡ Table.lowestEmpty slots self ⌝ }
+    {
+        self.slot_of(slots, Page(Slots::NO_PAGE))
+    }
+
+    pub fn changed_page(self, slots: usize, page: Page) -> bool
+        requires { ⌜ slots ≤ 16 ⌝ }
+        ensures { λ r. ⌜ r ≡ Table.changedPage slots self (page .0) ⌝ }
+    {
+        let mut i: usize = 0;
+        while i < slots {
+            let held = self.pages[i];
+            if held.0 == page.0 {
+                if self.changed[i] != 0 {
+                    return true;
+                }
+            }
+            i += 1;
+        }
+        false
+    }
+
+    // The slot used longest ago that `mask` does not spare.
+    pub fn victim(self, slots: usize, mask: [bool; 16]) -> Found
+        requires { ⌜ (slots ≤ 16) × (self .used ≤ 16) ⌝ }
+        ensures { λ r. ⌜ toOption r ≡ Table.victim slots (λ i. getD mask i false) self ⌝ }
+    {
+        let used = wide(self.used);
+        let mut k: usize = 0;
+        'search: loop {
+            if used <= k {
+                break Found::Nothing;
+            }
+            let page = self.order[k];
+            k += 1;
+            let mut i: usize = 0;
+            while i < slots {
+                let held = self.pages[i];
+                if held.0 == page.0 {
+                    if mask[i] {
+                        continue 'search;
+                    }
+                    break 'search Found::At(i);
+                }
+                i += 1;
+            }
+        }
+    }
+}
