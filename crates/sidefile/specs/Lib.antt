@@ -3,3 +3,6 @@ pub mod Judge
 pub mod Lengths
 pub mod Decode
 pub mod Accept
+pub mod Table
+pub mod Passed
+pub mod Sealed

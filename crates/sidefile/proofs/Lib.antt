@@ -1,0 +1,4 @@
+pub mod Answers
+pub mod Index
+pub mod Laying
+pub mod Scans

@@ -1,0 +1,45 @@
+use mathlib.Core.Path.{refl}
+use Rattle.octets.specs.Number.{bytes}
+use Rattle.sidefile.specs.Sealed.{firstBytes}
+use Rattle.sidefile.proofs.Laying.{next}
+use borrow.Author.Needs.{needs}
+use Rattle.sidefile.proofs.encode.write_first.Statement.{statement}
+use Rattle.sidefile.proofs.encode.write_first.Tie as tie
+
+store32-requires : tie.Need-store32-requires
+store32-requires c κs = search needs
+
+store16-requires : tie.Need-store16-requires
+store16-requires c κs = search needs
+
+store16-requires-2 : tie.Need-store16-requires-2
+store16-requires-2 c κs = search needs
+
+store32-requires-2 : tie.Need-store32-requires-2
+store32-requires-2 c κs = search needs
+
+store32-requires-3 : tie.Need-store32-requires-3
+store32-requires-3 c κs = search needs
+
+same-length : tie.Need-same-length
+same-length c = search needs
+
+returns : tie.Need-returns
+unfolding firstBytes bytes
+returns c =
+    let two = next _ _ _ _ _ 0 4 (c .before .before .before .before .before .before .before .before .before .before .before .before .before .before .before .before .before .before .store32 .ensures) (c .before .before .before .before .before .before .before .before .before .before .before .before .before .before .store16 .ensures) refl in
+    let three = next _ _ _ _ _ 0 6 two (c .before .before .before .before .before .before .before .before .before .before .store162 .ensures) refl in
+    let four = next _ _ _ _ _ 0 8 three (c .before .before .before .before .before .before .store322 .ensures) refl in
+    next _ _ _ _ _ 0 12 four (c .before .before .store323 .ensures) refl
+
+pub write-first-spec : {M : Type 1} → statement M
+write-first-spec =
+    tie.close
+    (tie.spec
+    store32-requires
+    store16-requires
+    store16-requires-2
+    store32-requires-2
+    store32-requires-3
+    same-length
+    returns)

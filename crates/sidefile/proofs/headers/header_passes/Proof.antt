@@ -1,0 +1,128 @@
+use Prim.Native.Nat.{ℕ}
+use mathlib.Core.Path.{_≡_, refl, _∙_, sym, ap}
+use mathlib.Core.Bool.{true}
+use mathlib.Core.List.{List}
+use lib.Dec.{eqb, leb}
+use lib.ListN.{take}
+use lib.Seq.{length-take-le}
+use borrow.Author.Tests.{le-leb, lt-leb, eq-eqb, ne-eqb}
+use Rattle.lists.specs.Scans.{done, more}
+use Rattle.octets.specs.Number.{le16, le32}
+use Rattle.units.specs.Sizes.{limits, entries}
+use Rattle.sidefile.specs.declared.Header.{Header}
+use Rattle.sidefile.specs.Encode.{checksum}
+use Rattle.sidefile.specs.Judge.{headerTests}
+use Rattle.sidefile.specs.Passed.{asks, fails-at, passes-last}
+use borrow.Author.Needs.{needs}
+use Rattle.sidefile.proofs.Answers.{yes, no}
+use Rattle.sidefile.proofs.headers.header_passes.Statement.{statement}
+use Rattle.sidefile.proofs.headers.header_passes.Tie as tie
+
+-- the tests that were passed, where each was
+abbrev bytes : tie.Else1 → List ℕ
+bytes c = c .before .before .before .before .before .args .s .now
+
+summed : (c : tie.Else1) → eqb (checksum (take 32 (bytes c))) (le32 (bytes c) 32) ≡ true
+unfolding checksum
+summed c = eq-eqb _ _ (sym (c .before .before .checksum .ensures) ∙ c .if1 .left ∙ c .before .load32 .ensures .0)
+
+limited : (c : tie.Else2) → limits (c .before .before .before .header-of .result .settings) ≡ true
+limited c = yes (c .before .within-limits .ensures) (c .if2 .left)
+
+zeroed : (c : tie.Else3) → eqb (le16 (bytes (c .before .before .before .before .before .before)) 26) 0 ≡ true
+zeroed c = eq-eqb _ _ (sym (c .before .load16 .ensures .0) ∙ c .if3 .left)
+
+slice-aggregate-checksum : tie.Need-slice-aggregate-checksum
+slice-aggregate-checksum c = sym (length-take-le 32 (c .before .before .args .s .now) (search needs))
+
+checksum-requires : tie.Need-checksum-requires
+checksum-requires c κs = search needs
+
+load32-requires : tie.Need-load32-requires
+load32-requires c κs = search needs
+
+returns : tie.Need-returns
+unfolding headerTests checksum
+returns c =
+    sym (fails-at 0 _
+    (ne-eqb _ _ (λ z. c .if1 .taken (c .before .before .checksum .ensures ∙ z ∙ sym (c .before .load32 .ensures .0)))))
+
+header-of-requires : tie.Need-header-of-requires
+header-of-requires c κs = search needs
+
+within-limits-requires : tie.Need-within-limits-requires
+within-limits-requires c κs = search needs
+
+returns-2 : tie.Need-returns-2
+unfolding headerTests
+returns-2 c =
+    sym (fails-at 1 _
+    (ap (λ (h : Header). limits (h .settings)) (sym (c .before .before .before .header-of .ensures))
+    ∙ no (c .before .within-limits .ensures) (c .if2 .taken)))
+
+load16-requires : tie.Need-load16-requires
+load16-requires c κs = search needs
+
+returns-3 : tie.Need-returns-3
+unfolding headerTests
+returns-3 c = sym (fails-at 2 _ (ne-eqb _ _ (λ z. c .if3 .taken (c .before .load16 .ensures .0 ∙ z))))
+
+long-enough-requires : tie.Need-long-enough-requires
+long-enough-requires c κs = limited (c .before .before)
+
+returns-4 : tie.Need-returns-4
+unfolding headerTests
+returns-4 c =
+    let a = c .before .before .before .before .before .before .before .before .before .before .before .before .before .args in
+    sym (fails-at 3 _
+    (ap (λ (h : Header). asks (a .whole) (a .n) (h .settings)) (sym (c .before .before .before .before .before .before .before .header-of .ensures))
+    ∙ no (c .before .long-enough .ensures) (c .if4 .taken)))
+
+returns-5 : tie.Need-returns-5
+unfolding headerTests
+returns-5 c =
+    sym (fails-at 4 _
+    (ap (λ (h : Header). leb (h .end) 65535) (sym (c .before .before .before .before .before .before .before .before .before .header-of .ensures)) ∙ lt-leb _ _ (c .if5 .taken)))
+
+wide-requires : tie.Need-wide-requires
+wide-requires c κs = search needs
+
+entries-requires : tie.Need-entries-requires
+entries-requires c κs = limited (c .before .before .before .before .before .before .before)
+
+returns-6 : tie.Need-returns-6
+unfolding headerTests
+returns-6 c =
+    let a = c .before .before .before .before .before .before .before .before .before .before .before .before .before .before .before .before .before .args in
+    let e = sym (c .before .before .before .before .before .before .before .before .before .before .before .header-of .ensures) in
+    rw (c .before .wide .ensures .0, c .entries .ensures .0)
+    (ap (λ (h : Header). leb (h .entries) (entries (h .settings))) (c .before .before .before .before .before .before .before .before .before .before .before .header-of .ensures)
+    ∙ sym (passes-last 5 _ _ refl
+    (more (summed (c .before .before .before .before .before .before .before .before .before .before .before .before))
+    (more (ap (λ (h : Header). limits (h .settings)) e ∙ limited (c .before .before .before .before .before .before .before .before))
+    (more (zeroed (c .before .before .before .before .before .before))
+    (more
+    (ap (λ (h : Header). asks (a .whole) (a .n) (h .settings)) e
+    ∙ yes (c .before .before .before .before .before .long-enough .ensures) (c .before .before .before .before .if4 .left))
+    (more (ap (λ (h : Header). leb (h .end) 65535) e ∙ le-leb _ _ (c .before .before .if5 .left))
+    done)))))))
+
+pub header-passes-spec : {M : Type 1} → statement M
+header-passes-spec =
+    tie.close
+    (tie.spec
+    slice-aggregate-checksum
+    checksum-requires
+    load32-requires
+    returns
+    header-of-requires
+    within-limits-requires
+    returns-2
+    load16-requires
+    returns-3
+    long-enough-requires
+    returns-4
+    returns-5
+    wide-requires
+    entries-requires
+    returns-6)

@@ -1,0 +1,77 @@
+use Prim.Native.Nat.{_-_, _≤_}
+use mathlib.Core.Path.{_≡_, refl, _∙_, sym}
+use native.Mathlib.Omega.{arith}
+use borrow.Author.Needs.{needs}
+use lib.ListN.{drop}
+use Rattle.octets.specs.Rows.{row-in}
+use Rattle.sidefile.specs.Table.{entriesAt, pagesFit}
+use Rattle.sidefile.proofs.Scans.{rising, rising-low, rising-far, rising-next, rising-end}
+use Rattle.sidefile.proofs.rows.ascending_below.Statement.{statement}
+use Rattle.sidefile.proofs.rows.ascending_below.Tie as tie
+
+abbrev Inv-loop : tie.InvT-loop
+Inv-loop s at w n end low₀ i₀ low i = (i ≤ n) × (pagesFit end (entriesAt at w n s) ≡ rising end low (drop i (entriesAt at w n s)))
+
+abbrev μ-loop : tie.MeasureT-loop
+μ-loop s at w n end low₀ i₀ low i = n - i
+
+loop-holds : tie.Need-loop-holds Inv-loop μ-loop
+unfolding pagesFit rising
+loop-holds c = (search needs, refl)
+
+number-requires : tie.Need-number-requires Inv-loop μ-loop
+number-requires c κs =
+    let a = c .before .before .before .args in
+    omega (arith, row-in (a .w) (c .before .loop .i) (a .n) (omega arith))
+
+returns : tie.Need-returns Inv-loop μ-loop
+returns c =
+    let a = c .before .before .before .before .before .args in
+    let l = c .before .before .before .loop in
+    sym (l .inv .1 ∙ rising-low (a .at) (a .w) (a .n) (a .s .now) (l .i) (omega arith) (a .end) (l .low) (omega arith))
+
+returns-2 : tie.Need-returns-2 Inv-loop μ-loop
+returns-2 c =
+    let a = c .before .before .before .before .before .before .args in
+    let l = c .before .before .before .before .loop in
+    sym (l .inv .1 ∙ rising-far (a .at) (a .w) (a .n) (a .s .now) (l .i) (omega arith) (a .end) (l .low) (omega arith))
+
+add-low : tie.Need-add-low Inv-loop μ-loop
+add-low c = search needs
+
+add-i : tie.Need-add-i Inv-loop μ-loop
+add-i c = search needs
+
+loop-less : tie.Need-loop-less Inv-loop μ-loop
+loop-less c = search needs
+
+loop-again : tie.Need-loop-again Inv-loop μ-loop
+loop-again c =
+    let a = c .before .before .before .before .before .before .args in
+    let l = c .before .before .before .before .loop in (
+      search needs,
+      rw (c .before .before .number .ensures .0)
+          (l .inv .1 ∙ rising-next (a .at) (a .w) (a .n) (a .s .now) (l .i) (omega arith) (a .end) (l .low) (omega arith) (omega arith)),
+    )
+
+returns-3 : tie.Need-returns-3 Inv-loop μ-loop
+returns-3 c =
+    let a = c .before .before .before .args in
+    let l = c .before .loop in
+    sym (l .inv .1 ∙ rising-end (a .at) (a .w) (a .n) (a .s .now) (l .i) (omega arith) (a .end) (l .low))
+
+pub ascending-below-spec : {M : Type 1} → statement M
+ascending-below-spec =
+    tie.close
+    (tie.spec
+    Inv-loop
+    μ-loop
+    loop-holds
+    number-requires
+    returns
+    returns-2
+    add-low
+    add-i
+    loop-less
+    loop-again
+    returns-3)

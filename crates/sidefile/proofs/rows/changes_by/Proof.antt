@@ -1,0 +1,62 @@
+use Prim.Native.Nat.{_-_, _≤_}
+use mathlib.Core.Path.{_≡_, refl, _∙_, sym}
+use native.Mathlib.Omega.{arith}
+use borrow.Author.Needs.{needs}
+use lib.ListN.{drop}
+use Rattle.octets.specs.Rows.{row-in}
+use Rattle.sidefile.specs.Table.{entriesAt, changesFit}
+use Rattle.sidefile.proofs.Scans.{changed-late, changed-next, changed-end}
+use Rattle.sidefile.proofs.rows.changes_by.Statement.{statement}
+use Rattle.sidefile.proofs.rows.changes_by.Tie as tie
+
+abbrev Inv-loop : tie.InvT-loop
+Inv-loop s at w n tick i₀ i = (i ≤ n) × (changesFit tick (entriesAt at w n s) ≡ changesFit tick (drop i (entriesAt at w n s)))
+
+abbrev μ-loop : tie.MeasureT-loop
+μ-loop s at w n tick i₀ i = n - i
+
+loop-holds : tie.Need-loop-holds Inv-loop μ-loop
+loop-holds c = (search needs, refl)
+
+number-requires : tie.Need-number-requires Inv-loop μ-loop
+number-requires c κs =
+    let a = c .before .before .before .args in
+    omega (arith, row-in (a .w) (c .before .loop .i) (a .n) (omega arith))
+
+returns : tie.Need-returns Inv-loop μ-loop
+returns c =
+    let a = c .before .before .before .before .before .before .args in
+    let l = c .before .before .before .before .loop in
+    sym (l .inv .1 ∙ changed-late (a .at) (a .w) (a .n) (a .s .now) (l .i) (omega arith) (a .tick) (omega arith))
+
+add-i : tie.Need-add-i Inv-loop μ-loop
+add-i c = search needs
+
+loop-less : tie.Need-loop-less Inv-loop μ-loop
+loop-less c = search needs
+
+loop-again : tie.Need-loop-again Inv-loop μ-loop
+loop-again c =
+    let a = c .before .before .before .before .before .before .args in
+    let l = c .before .before .before .before .loop in
+    (search needs, l .inv .1 ∙ changed-next (a .at) (a .w) (a .n) (a .s .now) (l .i) (omega arith) (a .tick) (omega arith))
+
+returns-2 : tie.Need-returns-2 Inv-loop μ-loop
+returns-2 c =
+    let a = c .before .before .before .args in
+    let l = c .before .loop in
+    sym (l .inv .1 ∙ changed-end (a .at) (a .w) (a .n) (a .s .now) (l .i) (omega arith) (a .tick))
+
+pub changes-by-spec : {M : Type 1} → statement M
+changes-by-spec =
+    tie.close
+    (tie.spec
+    Inv-loop
+    μ-loop
+    loop-holds
+    number-requires
+    returns
+    add-i
+    loop-less
+    loop-again
+    returns-2)
