@@ -1,2 +1,7 @@
+pub mod Follow
+pub mod Marks
+pub mod OneOutcome
+pub mod Outcome
 pub mod Read
+pub mod Span
 pub mod Take

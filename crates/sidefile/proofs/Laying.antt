@@ -28,7 +28,9 @@ unfolding headerBytes part
 headed h sum own xs first second last long e f g k =
     let front = headerFront h sum in
     let l = length-headerFront h sum in
-    let both : second ≡ lay xs 0 front = next xs first second (firstBytes h) (secondBytes h sum) 0 16 e f (omega (arith, length-first h)) ∙ ap (lay xs 0) (both-halves h sum) in
+    let both : second ≡ lay xs 0 front
+    = next xs first second (firstBytes h) (secondBytes h sum) 0 16 e f (omega (arith, length-first h))
+    ∙ ap (lay xs 0) (both-halves h sum) in
     let read : take 32 second ≡ front
     = ap (take 32) both
     ∙ ap (λ (n : ℕ). take n (lay xs 0 front)) (sym l)

@@ -1,6 +1,6 @@
 -- What one turn of a scan over the rows of a table does to its definition. Assumes nothing.
 use Prim.Native.Nat.{ℕ, zero, suc, _+_, _<_, _≤_}
-use mathlib.Core.Path.{_≡_, refl, _∙_, sym, ap}
+use mathlib.Core.Path.{_≡_, refl, _∙_, sym}
 use mathlib.Core.Bool.{Bool, true, false, not, _&&_, _||_}
 use mathlib.Core.List.{List, [], _∷_}
 use native.Mathlib.Numerals.{add-one}
@@ -108,7 +108,7 @@ all-unmet : (most n : ℕ) (xs : List IndexEntry)
     → allOf (λ x. free most (replicate n false) (place x)) xs ≡ allOf (λ x. ltb (place x) most) xs
 unfolding allOf
 all-unmet most n [] = refl
-all-unmet most n (x ∷ xs) = rw (unmet n (place x), all-unmet most n xs) (ap (λ (b : Bool). b && allOf (λ x. ltb (place x) most) xs) (and-yes (ltb (place x) most)))
+all-unmet most n (x ∷ xs) = rw (unmet n (place x), all-unmet most n xs, and-yes (ltb (place x) most))
 
 pub fresh-first : (most : ℕ) (xs : List IndexEntry) → most ≤ 272 → placesFit most xs ≡ fresh most noneMet xs
 unfolding placesFit noneMet

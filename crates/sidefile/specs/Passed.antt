@@ -9,13 +9,13 @@ use lib.Dec.{eqb, ltb, leb}
 use lib.ListN.{length, take, drop, getD}
 use borrow.Author.Tests.{leb-true, ltb-true, eqb-true}
 use Rattle.lists.specs.Bools.{if-then, both, and-right}
-use Rattle.lists.specs.Scans.{Every, done, more, head, tail, allOf, every-map, allOf-every}
+use Rattle.lists.specs.Scans.{Every, head, tail, allOf, every-map, allOf-every}
 use Rattle.octets.specs.Number.{le16, le32}
 use Rattle.octets.specs.Part.{part}
 use Rattle.units.specs.Bounds.{limits-within, indexEnd-most, firstImage-least}
 use Rattle.units.specs.Refusals.{foreign, damaged}
 use Rattle.units.specs.Sizes.{headerLength, indexRow, limits, entries, places, indexEnd, sideLength}
-use Rattle.units.specs.Tests.{Test, passes, verdict}
+use Rattle.units.specs.Tests.{Test, passes, verdict, numbered, passes-every}
 use Rattle.units.specs.declared.Settings.{Settings}
 use Rattle.sidefile.specs.declared.IndexEntry.{IndexEntry}
 use Rattle.sidefile.specs.Encode.{checksum, headerOf, indexOf}
@@ -49,24 +49,18 @@ passes-last zero ts t d e = rw d (and-yes (t .1))
 passes-last (suc k) [] t d e = let z : _≡_ {A = ℕ} 0 1 = cc in absurd (omega arith)
 passes-last (suc k) (u ∷ ts) t d e = rw (head e) (passes-last k ts t d (tail e))
 
--- every one of tests that pass does
-pub passes-every : (ts : List Test) → passes ts ≡ true → Every (λ t. t .1 ≡ true) ts
-unfolding passes
-passes-every [] e = done
-passes-every (t ∷ ts) e = let b = both (t .1) (passes ts) e in more (b .0) (passes-every ts (b .1))
-
 -- one list behind another
-pub passes-both : (ts us : List Test) → passes (ts ++ us) ≡ (passes ts && passes us)
+pub passes-and : (ts us : List Test) → passes (ts ++ us) ≡ (passes ts && passes us)
 unfolding passes
-passes-both [] us = refl
-passes-both (t ∷ ts) us = rw (passes-both ts us) (and-assoc (t .1) (passes ts) (passes us))
+passes-and [] us = refl
+passes-and (t ∷ ts) us = rw (passes-and ts us) (and-assoc (t .1) (passes ts) (passes us))
   where
     and-assoc : (a b c : Bool) → (a && (b && c)) ≡ ((a && b) && c)
     and-assoc true b c = refl
     and-assoc false b c = refl
 
 pub passes-parts : (ts us : List Test) → passes (ts ++ us) ≡ true → (passes ts ≡ true) × (passes us ≡ true)
-passes-parts ts us e = both (passes ts) (passes us) (sym (passes-both ts us) ∙ e)
+passes-parts ts us e = both (passes ts) (passes us) (sym (passes-and ts us) ∙ e)
 
 pub verdict-behind : (ts us : List Test) → passes ts ≡ true → verdict (ts ++ us) ≡ verdict us
 unfolding passes verdict
@@ -96,11 +90,11 @@ verdict-by k (t ∷ ts) a e =
     go false z e ih = z
 
 -- a verdict of 0, where no test refuses by 0
-pub verdict-none : (ts : List Test) → allOf (λ t. ltb 0 (t .0)) ts ≡ true → verdict ts ≡ 0 → passes ts ≡ true
+pub verdict-none : (ts : List Test) → allOf numbered ts ≡ true → verdict ts ≡ 0 → passes ts ≡ true
 unfolding passes verdict allOf
 verdict-none [] a e = refl
 verdict-none (t ∷ ts) a e =
-    let b = both (ltb 0 (t .0)) (allOf (λ t. ltb 0 (t .0)) ts) a in
+    let b = both (numbered t) (allOf numbered ts) a in
     go (t .1) (ltb-true 0 (t .0) (b .0)) e (verdict-none ts (b .1))
   where
     go : (c : Bool) → 0 < t .0 → if-then c (verdict ts) (t .0) ≡ 0 → (verdict ts ≡ 0 → passes ts ≡ true) → (c && passes ts) ≡ true
@@ -117,7 +111,8 @@ pub mark-refused : (xs : List ℕ) → passes (markTests xs) ≡ false → verdi
 unfolding markTests allOf
 mark-refused xs e = verdict-by foreign (markTests xs) refl e
 
-pub header-refused : (long : Settings → Bool) (xs : List ℕ) → passes (headerTests long xs) ≡ false → verdict (headerTests long xs) ≡ damaged
+pub header-refused : (long : Settings → Bool) (xs : List ℕ) → passes (headerTests long xs) ≡ false
+    → verdict (headerTests long xs) ≡ damaged
 unfolding headerTests allOf
 header-refused long xs e = verdict-by damaged (headerTests long xs) refl e
 
@@ -181,7 +176,9 @@ index-passed xs e =
       summed = eqb-true _ _ (head (tail g));
     }
   where
-    all-facts : {P : IndexEntry → Type 0} (t : IndexEntry → Bool) → ((x : IndexEntry) → t x ≡ true → P x) → allOf t (indexOf xs) ≡ true → Every P (indexOf xs)
+    all-facts : {P : IndexEntry → Type 0} (t : IndexEntry → Bool) → ((x : IndexEntry) → t x ≡ true → P x)
+        → allOf t (indexOf xs) ≡ true
+        → Every P (indexOf xs)
     all-facts t f e = every-map f (indexOf xs) (allOf-every t (indexOf xs) e)
 
 -- what the index can be judged by: the header passed, and the bytes at hand reach its end

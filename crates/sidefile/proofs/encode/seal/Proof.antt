@@ -26,7 +26,10 @@ part-checksum-start c = search needs
 
 part-checksum-end : tie.Need-part-checksum-end
 unfolding indexEnd
-part-checksum-end c = omega (arith, c .before .before .before .before .before .before .before .pre .1, c .before .before .before .before .before .before .before .pre .2, c .before .before .before .before .before .wide .ensures .0)
+part-checksum-end c =
+    let w = c .before .before .before .before .before in
+    let p = w .before .before .pre in
+    omega (arith, p .1, p .2, w .wide .ensures .0)
 
 checksum-requires : tie.Need-checksum-requires
 checksum-requires c κs = search needs
@@ -42,7 +45,11 @@ returns : tie.Need-returns
 unfolding checksum
 returns c =
     let a = c .before .before .before .before .before .before .before .before .before .before .before .before .before .args in
-    sealing (a .settings) (a .closed) (a .end) (a .n) _ _ (a .s .now) _ _ (c .before .before .before .before .before .before .before .before .before .before .before .wide .ensures .0) (c .before .before .before .before .before .before .before .before .before .clear-spare .ensures) (c .before .before .before .before .checksum .ensures) (c .before .before .write-header .ensures)
+    sealing (a .settings) (a .closed) (a .end) (a .n) _ _ (a .s .now) _ _
+    (c .before .before .before .before .before .before .before .before .before .before .before .wide .ensures .0)
+    (c .before .before .before .before .before .before .before .before .before .clear-spare .ensures)
+    (c .before .before .before .before .checksum .ensures)
+    (c .before .before .write-header .ensures)
 
 pub seal-spec : {M : Type 1} → statement M
 seal-spec =

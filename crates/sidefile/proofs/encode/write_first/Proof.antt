@@ -27,10 +27,15 @@ same-length c = search needs
 returns : tie.Need-returns
 unfolding firstBytes bytes
 returns c =
-    let two = next _ _ _ _ _ 0 4 (c .before .before .before .before .before .before .before .before .before .before .before .before .before .before .before .before .before .before .store32 .ensures) (c .before .before .before .before .before .before .before .before .before .before .before .before .before .before .store16 .ensures) refl in
-    let three = next _ _ _ _ _ 0 6 two (c .before .before .before .before .before .before .before .before .before .before .store162 .ensures) refl in
-    let four = next _ _ _ _ _ 0 8 three (c .before .before .before .before .before .before .store322 .ensures) refl in
-    next _ _ _ _ _ 0 12 four (c .before .before .store323 .ensures) refl
+    let fifth = c .before .before in
+    let fourth = fifth .before .before .before .before in
+    let third = fourth .before .before .before .before in
+    let second = third .before .before .before .before in
+    let first = second .before .before .before .before in
+    let two = next _ _ _ _ _ 0 4 (first .store32 .ensures) (second .store16 .ensures) refl in
+    let three = next _ _ _ _ _ 0 6 two (third .store162 .ensures) refl in
+    let four = next _ _ _ _ _ 0 8 three (fourth .store322 .ensures) refl in
+    next _ _ _ _ _ 0 12 four (fifth .store323 .ensures) refl
 
 pub write-first-spec : {M : Type 1} → statement M
 write-first-spec =

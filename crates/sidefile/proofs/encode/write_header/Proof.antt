@@ -31,7 +31,11 @@ returns : tie.Need-returns
 unfolding checksum
 returns c =
     let a = c .before .before .before .before .before .before .before .before .before .before .before .before .before .before .before .args in
-    headed (a .header) (a .sum) _ (a .s .now) _ _ _ (search needs) (c .before .before .before .before .before .before .before .before .before .before .before .before .write-first .ensures) (c .before .before .before .before .before .before .before .before .write-second .ensures) (c .before .before .before .before .checksum .ensures) (c .before .before .store32 .ensures)
+    headed (a .header) (a .sum) _ (a .s .now) _ _ _ (search needs)
+    (c .before .before .before .before .before .before .before .before .before .before .before .before .write-first .ensures)
+    (c .before .before .before .before .before .before .before .before .write-second .ensures)
+    (c .before .before .before .before .checksum .ensures)
+    (c .before .before .store32 .ensures)
 
 pub write-header-spec : {M : Type 1} → statement M
 write-header-spec =

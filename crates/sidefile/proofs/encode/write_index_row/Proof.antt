@@ -39,9 +39,13 @@ same-length c = search needs
 returns : tie.Need-returns
 unfolding indexRowOf bytes
 returns c =
-    let two = next _ _ _ _ _ _ _ (c .before .before .before .before .before .before .before .before .before .before .before .before .before .before .store32 .ensures) (c .before .before .before .before .before .before .before .before .before .before .store322 .ensures) refl in
-    let three = next _ _ _ _ _ _ _ two (c .before .before .before .before .before .before .store323 .ensures) refl in
-    next _ _ _ _ _ _ _ three (c .before .before .store324 .ensures) refl
+    let fourth = c .before .before in
+    let third = fourth .before .before .before .before in
+    let second = third .before .before .before .before in
+    let first = second .before .before .before .before in
+    let two = next _ _ _ _ _ _ _ (first .store32 .ensures) (second .store322 .ensures) refl in
+    let three = next _ _ _ _ _ _ _ two (third .store323 .ensures) refl in
+    next _ _ _ _ _ _ _ three (fourth .store324 .ensures) refl
 
 pub write-index-row-spec : {M : Type 1} → statement M
 write-index-row-spec =

@@ -27,10 +27,15 @@ same-length c = search needs
 returns : tie.Need-returns
 unfolding secondBytes bytes
 returns c =
-    let two = next _ _ _ _ _ 16 20 (c .before .before .before .before .before .before .before .before .before .before .before .before .before .before .before .before .before .before .store32 .ensures) (c .before .before .before .before .before .before .before .before .before .before .before .before .before .before .store322 .ensures) refl in
-    let three = next _ _ _ _ _ 16 24 two (c .before .before .before .before .before .before .before .before .before .before .store16 .ensures) refl in
-    let four = next _ _ _ _ _ 16 26 three (c .before .before .before .before .before .before .store162 .ensures) refl in
-    next _ _ _ _ _ 16 28 four (c .before .before .store323 .ensures) refl
+    let fifth = c .before .before in
+    let fourth = fifth .before .before .before .before in
+    let third = fourth .before .before .before .before in
+    let second = third .before .before .before .before in
+    let first = second .before .before .before .before in
+    let two = next _ _ _ _ _ 16 20 (first .store32 .ensures) (second .store322 .ensures) refl in
+    let three = next _ _ _ _ _ 16 24 two (third .store16 .ensures) refl in
+    let four = next _ _ _ _ _ 16 26 three (fourth .store162 .ensures) refl in
+    next _ _ _ _ _ 16 28 four (fifth .store323 .ensures) refl
 
 pub write-second-spec : {M : Type 1} → statement M
 write-second-spec =

@@ -1,6 +1,6 @@
 use Prim.Native.Nat.{ℕ}
 use mathlib.Core.Path.{_≡_, refl, _∙_, sym, ap}
-use mathlib.Core.Bool.{true}
+use mathlib.Core.Bool.{Bool, true}
 use mathlib.Core.List.{List}
 use lib.Dec.{eqb, leb}
 use lib.ListN.{take}
@@ -10,7 +10,7 @@ use Rattle.lists.specs.Scans.{done, more}
 use Rattle.octets.specs.Number.{le16, le32}
 use Rattle.units.specs.Sizes.{limits, entries}
 use Rattle.sidefile.specs.declared.Header.{Header}
-use Rattle.sidefile.specs.Encode.{checksum}
+use Rattle.sidefile.specs.Encode.{checksum, headerOf}
 use Rattle.sidefile.specs.Judge.{headerTests}
 use Rattle.sidefile.specs.Passed.{asks, fails-at, passes-last}
 use borrow.Author.Needs.{needs}
@@ -18,18 +18,31 @@ use Rattle.sidefile.proofs.Answers.{yes, no}
 use Rattle.sidefile.proofs.headers.header_passes.Statement.{statement}
 use Rattle.sidefile.proofs.headers.header_passes.Tie as tie
 
--- the tests that were passed, where each was
+-- the bytes, and what the header that was read says of them, from behind each test
 abbrev bytes : tie.Else1 → List ℕ
 bytes c = c .before .before .before .before .before .args .s .now
 
+abbrev past2 : tie.Else2 → tie.After-header-of
+past2 c = c .before .before .before
+
+abbrev past3 : tie.Else3 → tie.After-header-of
+past3 c = past2 (c .before .before)
+
+abbrev past4 : tie.Else4 → tie.After-header-of
+past4 c = past3 (c .before .before)
+
+says : (c : tie.After-header-of) (t : Header → Bool) → t (headerOf (bytes (c .before))) ≡ t (c .header-of .result)
+says c t = ap t (sym (c .header-of .ensures))
+
+-- the tests that were passed
 summed : (c : tie.Else1) → eqb (checksum (take 32 (bytes c))) (le32 (bytes c) 32) ≡ true
 unfolding checksum
 summed c = eq-eqb _ _ (sym (c .before .before .checksum .ensures) ∙ c .if1 .left ∙ c .before .load32 .ensures .0)
 
-limited : (c : tie.Else2) → limits (c .before .before .before .header-of .result .settings) ≡ true
+limited : (c : tie.Else2) → limits (past2 c .header-of .result .settings) ≡ true
 limited c = yes (c .before .within-limits .ensures) (c .if2 .left)
 
-zeroed : (c : tie.Else3) → eqb (le16 (bytes (c .before .before .before .before .before .before)) 26) 0 ≡ true
+zeroed : (c : tie.Else3) → eqb (le16 (bytes (past3 c .before)) 26) 0 ≡ true
 zeroed c = eq-eqb _ _ (sym (c .before .load16 .ensures .0) ∙ c .if3 .left)
 
 slice-aggregate-checksum : tie.Need-slice-aggregate-checksum
@@ -57,8 +70,7 @@ returns-2 : tie.Need-returns-2
 unfolding headerTests
 returns-2 c =
     sym (fails-at 1 _
-    (ap (λ (h : Header). limits (h .settings)) (sym (c .before .before .before .header-of .ensures))
-    ∙ no (c .before .within-limits .ensures) (c .if2 .taken)))
+    (says (c .before .before .before) (λ h. limits (h .settings)) ∙ no (c .before .within-limits .ensures) (c .if2 .taken)))
 
 load16-requires : tie.Need-load16-requires
 load16-requires c κs = search needs
@@ -73,16 +85,15 @@ long-enough-requires c κs = limited (c .before .before)
 returns-4 : tie.Need-returns-4
 unfolding headerTests
 returns-4 c =
-    let a = c .before .before .before .before .before .before .before .before .before .before .before .before .before .args in
+    let h = past3 (c .before .before) in
+    let a = h .before .before .before .before .before .before .args in
     sym (fails-at 3 _
-    (ap (λ (h : Header). asks (a .whole) (a .n) (h .settings)) (sym (c .before .before .before .before .before .before .before .header-of .ensures))
-    ∙ no (c .before .long-enough .ensures) (c .if4 .taken)))
+    (says h (λ h. asks (a .whole) (a .n) (h .settings)) ∙ no (c .before .long-enough .ensures) (c .if4 .taken)))
 
 returns-5 : tie.Need-returns-5
 unfolding headerTests
 returns-5 c =
-    sym (fails-at 4 _
-    (ap (λ (h : Header). leb (h .end) 65535) (sym (c .before .before .before .before .before .before .before .before .before .header-of .ensures)) ∙ lt-leb _ _ (c .if5 .taken)))
+    sym (fails-at 4 _ (says (past4 (c .before .before)) (λ h. leb (h .end) 65535) ∙ lt-leb _ _ (c .if5 .taken)))
 
 wide-requires : tie.Need-wide-requires
 wide-requires c κs = search needs
@@ -93,18 +104,19 @@ entries-requires c κs = limited (c .before .before .before .before .before .bef
 returns-6 : tie.Need-returns-6
 unfolding headerTests
 returns-6 c =
-    let a = c .before .before .before .before .before .before .before .before .before .before .before .before .before .before .before .before .before .args in
-    let e = sym (c .before .before .before .before .before .before .before .before .before .before .before .header-of .ensures) in
+    let e5 = c .before .before in
+    let e4 = e5 .before .before in
+    let e3 = e4 .before .before in
+    let h = past4 e4 in
+    let a = h .before .before .before .before .before .before .args in
     rw (c .before .wide .ensures .0, c .entries .ensures .0)
-    (ap (λ (h : Header). leb (h .entries) (entries (h .settings))) (c .before .before .before .before .before .before .before .before .before .before .before .header-of .ensures)
+    (sym (says h (λ h. leb (h .entries) (entries (h .settings))))
     ∙ sym (passes-last 5 _ _ refl
-    (more (summed (c .before .before .before .before .before .before .before .before .before .before .before .before))
-    (more (ap (λ (h : Header). limits (h .settings)) e ∙ limited (c .before .before .before .before .before .before .before .before))
-    (more (zeroed (c .before .before .before .before .before .before))
-    (more
-    (ap (λ (h : Header). asks (a .whole) (a .n) (h .settings)) e
-    ∙ yes (c .before .before .before .before .before .long-enough .ensures) (c .before .before .before .before .if4 .left))
-    (more (ap (λ (h : Header). leb (h .end) 65535) e ∙ le-leb _ _ (c .before .before .if5 .left))
+    (more (summed (h .before))
+    (more (says h (λ h. limits (h .settings)) ∙ limited (e3 .before .before))
+    (more (zeroed e3)
+    (more (says h (λ h. asks (a .whole) (a .n) (h .settings)) ∙ yes (e4 .before .long-enough .ensures) (e4 .if4 .left))
+    (more (says h (λ h. leb (h .end) 65535) ∙ le-leb _ _ (e5 .if5 .left))
     done)))))))
 
 pub header-passes-spec : {M : Type 1} → statement M

@@ -6,7 +6,7 @@ use lib.ListN.{length}
 use Rattle.lists.specs.Bools.{and-left, and-true}
 use Rattle.units.specs.Tests.{passes}
 use Rattle.sidefile.specs.Judge.{markTests, headerTests, heldTests, holds}
-use Rattle.sidefile.specs.Passed.{mark-length, indexed-held, passes-both}
+use Rattle.sidefile.specs.Passed.{mark-length, indexed-held, passes-and}
 use borrow.Author.Needs.{needs}
 use Rattle.sidefile.proofs.Answers.{yes, no}
 use Rattle.sidefile.proofs.judge.held_passes.Statement.{statement}
@@ -26,7 +26,7 @@ well-marked-requires c κs = search needs
 
 returns : tie.Need-returns
 unfolding heldTests
-returns c = sym (passes-both _ _ ∙ and-left _ _ (no (c .before .well-marked .ensures) (c .if1 .taken)))
+returns c = sym (passes-and _ _ ∙ and-left _ _ (no (c .before .well-marked .ensures) (c .if1 .taken)))
 
 header-passes-requires : tie.Need-header-passes-requires
 header-passes-requires c κs = mark-length (bytes c) (marked c)
@@ -34,9 +34,9 @@ header-passes-requires c κs = mark-length (bytes c) (marked c)
 returns-2 : tie.Need-returns-2
 unfolding heldTests
 returns-2 c =
-    sym (passes-both _ _
+    sym (passes-and _ _
     ∙ and-true (marked (c .before .before))
-    ∙ passes-both _ _
+    ∙ passes-and _ _
     ∙ and-left _ _ (no (c .before .header-passes .ensures) (c .if2 .taken)))
 
 index-passes-requires : tie.Need-index-passes-requires
@@ -46,7 +46,7 @@ returns-3 : tie.Need-returns-3
 unfolding heldTests
 returns-3 c =
     c .index-passes .ensures
-    ∙ sym (passes-both _ _ ∙ and-true (marked (c .before .before .before)) ∙ passes-both _ _ ∙ and-true (headed (c .before)))
+    ∙ sym (passes-and _ _ ∙ and-true (marked (c .before .before .before)) ∙ passes-and _ _ ∙ and-true (headed (c .before)))
 
 pub held-passes-spec : {M : Type 1} → statement M
 held-passes-spec =

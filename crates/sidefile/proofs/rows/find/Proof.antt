@@ -10,7 +10,9 @@ use Rattle.sidefile.proofs.rows.find.Statement.{statement}
 use Rattle.sidefile.proofs.rows.find.Tie as tie
 
 abbrev Inv-loop : tie.InvT-loop
-Inv-loop s at w n page row₀ row = (row ≤ n) × (position (ofPage (page .0)) (entriesAt at w n s) ≡ row + position (ofPage (page .0)) (drop row (entriesAt at w n s)))
+Inv-loop s at w n page row₀ row =
+    (row ≤ n)
+    × (position (ofPage (page .0)) (entriesAt at w n s) ≡ row + position (ofPage (page .0)) (drop row (entriesAt at w n s)))
 
 abbrev μ-loop : tie.MeasureT-loop
 μ-loop s at w n page row₀ row = n - row
@@ -33,7 +35,8 @@ loop-again : tie.Need-loop-again Inv-loop μ-loop
 loop-again c =
     let a = c .before .before .before .before .before .before .args in
     let l = c .before .before .before .before .loop in
-    (search needs, omega (arith, l .inv .1, found-next (a .at) (a .w) (a .n) (a .s .now) (l .row) (omega arith) (a .page .0) _ (c .before .before .number .ensures .0) (c .if1 .left)))
+    let f = found-next (a .at) (a .w) (a .n) (a .s .now) (l .row) (omega arith) (a .page .0) _ (c .before .before .number .ensures .0) (c .if1 .left) in
+    (search needs, omega (arith, l .inv .1, f))
 
 returns : tie.Need-returns Inv-loop μ-loop
 returns c =
@@ -45,7 +48,8 @@ returns-2 : tie.Need-returns-2 Inv-loop μ-loop
 returns-2 c =
     let a = c .before .before .before .before .before .before .args in
     let l = c .before .before .before .before .loop in
-    (omega (arith, l .inv .1, found-here (a .at) (a .w) (a .n) (a .s .now) (l .row) (omega arith) (a .page .0) _ (c .before .before .number .ensures .0) (c .if1 .taken)), search needs)
+    let f = found-here (a .at) (a .w) (a .n) (a .s .now) (l .row) (omega arith) (a .page .0) _ (c .before .before .number .ensures .0) (c .if1 .taken) in
+    (omega (arith, l .inv .1, f), search needs)
 
 pub find-spec : {M : Type 1} → statement M
 find-spec =

@@ -10,7 +10,9 @@ use Rattle.sidefile.proofs.rows.places_apart.Statement.{statement}
 use Rattle.sidefile.proofs.rows.places_apart.Tie as tie
 
 abbrev Inv-loop : tie.InvT-loop
-Inv-loop s at w n most met₀ i₀ met i = (i ≤ n) × (length met ≡ 272) × (placesFit most (entriesAt at w n s) ≡ fresh most met (drop i (entriesAt at w n s)))
+Inv-loop s at w n most met₀ i₀ met i =
+    (i ≤ n) × (length met ≡ 272)
+    × (placesFit most (entriesAt at w n s) ≡ fresh most met (drop i (entriesAt at w n s)))
 
 abbrev μ-loop : tie.MeasureT-loop
 μ-loop s at w n most met₀ i₀ met i = n - i

@@ -1,0 +1,6 @@
+pub mod Answers
+pub mod Followed
+pub mod Raised
+pub mod Replied
+pub mod Scans
+pub mod Spans

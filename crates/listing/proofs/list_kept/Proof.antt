@@ -1,0 +1,31 @@
+use native.Mathlib.Omega.{arith}
+use lib.ListN.{take, length-take}
+use Prim.Native.Nat.{ℕ}
+use mathlib.Core.Path.{ap}
+use Rattle.listing.specs.Text.{listing}
+use Rattle.listing.specs.Written.{written-as}
+use borrow.Author.Needs.{needs}
+use Rattle.listing.proofs.list_kept.Statement.{statement}
+use Rattle.listing.proofs.list_kept.Tie as tie
+
+least-requires : tie.Need-least-requires
+least-requires c κs = search needs
+
+slice-aggregate-list : tie.Need-slice-aggregate-list
+slice-aggregate-list c = simp length-take (omega arith)
+
+list-requires : tie.Need-list-requires
+list-requires c κs = simp length-take (omega arith)
+
+same-length : tie.Need-same-length
+same-length c = search needs
+
+returns : tie.Need-returns
+returns c =
+    let a = c .before .before .before .before .before .before .before .before .args in
+    let e = c .before .before .before .before .before .least .ensures in
+    (written-as (ap (λ (k : ℕ). listing (a .total) (take k (a .kept .now))) e) (c .before .before .list .ensures .0), search needs)
+
+pub list-kept-spec : {M : Type 1} → statement M
+list-kept-spec =
+    tie.close (tie.spec least-requires slice-aggregate-list list-requires same-length returns)

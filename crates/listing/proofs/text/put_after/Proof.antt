@@ -1,0 +1,20 @@
+use Rattle.listing.specs.Written.{written-next}
+use borrow.Author.Needs.{needs}
+use Rattle.listing.proofs.text.put_after.Statement.{statement}
+use Rattle.listing.proofs.text.put_after.Tie as tie
+
+put-requires : tie.Need-put-requires
+put-requires c κs = search needs
+
+put-decimal-requires : tie.Need-put-decimal-requires
+put-decimal-requires c κs = search needs
+
+same-length : tie.Need-same-length
+same-length c = search needs
+
+returns : tie.Need-returns
+returns c =
+    (written-next (c .before .before .before .before .before .before .put .ensures) (c .before .before .put-decimal .ensures .0), search needs)
+
+pub put-after-spec : {M : Type 1} → statement M
+put-after-spec = tie.close (tie.spec put-requires put-decimal-requires same-length returns)
