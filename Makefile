@@ -40,6 +40,7 @@ build/bench/copy: c/bench/bench_copy.c target/staticlib/libleaves.a
 bench: build/bench/lookup3 build/bench/copy
 	@build/bench/lookup3
 	@build/bench/copy
+	@cd rust && cargo run --offline --release --quiet --bin bench
 
 mutants:
 	@tools/mutants

@@ -80,6 +80,29 @@ size_t ungletice_read_offset(const uint8_t *side, size_t side_length, const uint
  * The empty slice gives 0xdeadbeef plus the start value, modulo 2^32. */
 uint32_t ungletice_lookup3(const uint8_t *bytes, size_t length, uint32_t start);
 
+/* What a number of refusal means, and what to do about it. */
+static inline const char *ungletice_refusal_text(uint32_t number)
+{
+    switch (number) {
+    case 0: return "accepted";
+    case 1: return "a setting is outside its limits, or e is above E: open with other settings";
+    case 2: return "a lent buffer is too short: lend one of the length that the settings ask for";
+    case 3: return "the state or the held buffer is broken: take again, or open again with what was kept";
+    case 4: return "the page is not in the file: ask for a page below e";
+    case 5: return "the kind of a page is neither metadata nor raw: mend the kind table or the kind named";
+    case 6: return "the span is empty or leaves its page: read or write inside one page";
+    case 7: return "no slot is empty or clean: close the tick, or open with more slots";
+    case 8: return "the file has E pages already: open with a larger E";
+    case 9: return "the largest tick is closed: open anew";
+    case 10: return "too few image places or index entries: close more often with fewer changes";
+    case 11: return "not a side file of this version: check the file, and which program wrote it";
+    case 12: return "the side file is damaged, too short, or has other settings than those held: take again, or mend the file";
+    case 13: return "the held tick is out of reach of the side file's: take again";
+    case 14: return "the image of the page is damaged: refresh once the page has changed, or mend the side file";
+    default: return "no number of refusal";
+    }
+}
+
 #ifdef __cplusplus
 }
 #endif

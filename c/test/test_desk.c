@@ -86,6 +86,8 @@ static void damaged(const char *what, size_t at, uint8_t value, int sealed, uint
 
 int main(void)
 {
+    const char *none = ungletice_refusal_text(15);
+
     for (size_t i = 0; i < sizeof base; i++)
         base[i] = (uint8_t)(i / P + 100);
 
@@ -141,6 +143,9 @@ int main(void)
     damaged("change after the tick", 44, 2, 1, 12);
     damaged("spare entry", 60, 1, 1, 12);
     damaged("index checksum", 48, 1, 0, 12);
+
+    for (volatile uint32_t number = 0; number <= 14; number++)
+        expect("a text for each number", strcmp(ungletice_refusal_text(number), none) != 0, 1);
 
     printf("%d passed, %d failed\n", passed, failed);
     return failed != 0;

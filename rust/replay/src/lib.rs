@@ -16,6 +16,7 @@ pub mod judge;
 pub mod layout;
 pub mod ledger;
 mod on_plain;
+mod on_proved;
 pub mod output;
 pub mod pattern;
 pub mod recorder;

@@ -36,7 +36,7 @@ pub trait Version {
 pub fn named(word: &str) -> Result<&'static dyn Version, String> {
     match word {
         "plain" => Ok(&crate::on_plain::Plain),
-        "proved" => Err("the version 'proved' is not built into this program".to_string()),
+        "proved" => Ok(&crate::on_proved::Proved),
         _ => Err(format!("no version is named '{word}'")),
     }
 }

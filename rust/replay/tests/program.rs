@@ -78,7 +78,6 @@ fn words_that_are_not_understood() {
     assert_error(&replay(&["--generate", "1"]), "--help");
     assert_error(&replay(&["--generate", "one", "2"]), "'one' is no seed");
     assert_error(&replay(&["--on", "paper", "-"]), "no version is named 'paper'");
-    assert_error(&replay(&["--on", "proved", "-"]), "'proved'");
     assert_error(&replay(&["--coverage"]), "--help");
     assert_error(&replay(&["no such file"]), "no such file");
     assert!(text(&replay(&["--help"]).stdout).starts_with("usage: replay"));
