@@ -37,7 +37,7 @@ unfoldable numbers : ℕ → List ℕ → List ℕ
 numbers zero r = []
 numbers (suc n) r = le 4 r ∷ numbers n (drop 4 r)
 
-octets-drop : (n : ℕ) (r : List ℕ) → Octets r → Octets (drop n r)
+pub octets-drop : (n : ℕ) (r : List ℕ) → Octets r → Octets (drop n r)
 unfolding Octets
 octets-drop n r o i = rw (getD-drop n r i 0) (o (n + i))
 
@@ -90,7 +90,7 @@ unfolding Even
 even-entries [] = tt
 even-entries (e ∷ es) = (length-row e, even-entries es)
 
-entries-read : (es : List Entry) → Every Small es → map entryOf (map entryRowOf es) ≡ es
+pub entries-read : (es : List Entry) → Every Small es → map entryOf (map entryRowOf es) ≡ es
 entries-read [] s = refl
 entries-read (e ∷ es) s = rw (entry-read e (head s), entries-read es (tail s))
 
@@ -122,7 +122,7 @@ unfolding entriesIn
 entriesIn-beside n xs a ys h = ap (map entryOf) (rows-beside entryRow n xs a ys h)
 
 -- what bytes say is small
-octets-take : (n : ℕ) (r : List ℕ) → Octets r → Octets (take n r)
+pub octets-take : (n : ℕ) (r : List ℕ) → Octets r → Octets (take n r)
 unfolding Octets
 octets-take zero r o i = omega arith
 octets-take (suc n) [] o i = omega arith

@@ -1,0 +1,8 @@
+pub mod Flagging
+pub mod Giving
+pub mod Indexing
+pub mod Judging
+pub mod Keeping
+pub mod Placing
+pub mod Putting
+pub mod Renewing

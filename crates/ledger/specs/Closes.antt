@@ -1,0 +1,142 @@
+-- What the code of a close makes is what the definitions ask for: arrays are lists, flags are tests, tables are scans. A proof
+-- about a close cites these laws of `Closing` and looks no further. Assumes nothing.
+use Prim.Native.Nat.{ℕ, _+_, _<_, _≤_}
+use mathlib.Core.Path.{_≡_, refl, _∙_, sym, ap}
+use mathlib.Core.Bool.{Bool, true, false}
+use mathlib.Core.List.{List, map}
+use mathlib.Core.Logic.{_⊎_, inl, inr}
+use native.Mathlib.Omega.{arith}
+use lib.Dec.{eqb}
+use lib.ListN.{length, take, getD, length-map, List·getD-map}
+use lib.Seq.{getD-take, ext-getD}
+use borrow.Author.Tests.{eq-eqb, ne-eqb}
+use Rattle.lists.specs.Below.{below, zip, length-from, get-from, every-from}
+use Rattle.lists.specs.Scans.{Every, keep, anyOf, every-map}
+use Rattle.octets.specs.Part.{lay}
+use Rattle.units.specs.Ages as Ages
+use Rattle.units.specs.Bounds.{limits-within, places-most}
+use Rattle.units.specs.Sizes.{limits, entries, places, ledgerLength}
+use Rattle.units.specs.declared.Page.{Page}
+use Rattle.units.specs.declared.Place.{Place}
+use Rattle.units.specs.declared.Tick.{Tick}
+use Rattle.sidefile.specs.Judge.{ascending, apart}
+use Rattle.ledger.specs.declared.Entry.{Entry}
+use Rattle.ledger.specs.declared.renewal.Fresh.{Fresh}
+use Rattle.ledger.specs.View.{indexed, entriesIn}
+use Rattle.ledger.specs.Entries.{pageOf, placeOf, at, find, isDue, placeAfter, putAll, enteredOr, fresh}
+use Rattle.ledger.specs.Rowed.{Small, length-entriesIn}
+use Rattle.ledger.specs.Placed.{givenUp}
+use Rattle.ledger.specs.Ordered.{length-put}
+use Rattle.ledger.specs.Aged.{stay-split}
+use Rattle.ledger.specs.Closing.{Closing, now, waitOf, gives, newOf, staysOf, laterOf, IsNew, IsStay, asc-new, new-pages, later-facts, length-fresh}
+use Rattle.ledger.specs.Due.{dueIn, dueOf}
+use Rattle.ledger.specs.Guarded.{ledgerLater}
+use Rattle.ledger.specs.Changed.{numbersOf, entryTicks}
+use Rattle.ledger.specs.Flagged.{picked, others, picked-keep, others-keep}
+use Rattle.ledger.specs.Lists.{get-map, get-zip, map-same, keep-same, any-keep}
+use Rattle.ledger.specs.Tables.{placesOf, heldBy, rowAfter, rowsAfter, row-after, table-get}
+use Rattle.ledger.specs.Renewed.{freshAt, freshOf, Renews, laterIn, renewed, isDueNow}
+
+-- Arrays of new entries.
+
+-- the pages, their places, the checksums of their images and their entry ticks make the new entries of these pages and places
+pub fresh-arrays : (N : Tick) (es : List Entry) (sum : ℕ → ℕ) (cs qs : List ℕ) (f : Fresh) → length cs ≡ f .count → length cs ≤ length qs
+    → numbersOf (f .count) (f .pages) ≡ cs → placesOf (f .count) (f .places) ≡ take (f .count) qs → take (f .count) (f .sums) ≡ map sum cs
+    → take (f .count) (f .entered) ≡ entryTicks N es cs → freshOf N f ≡ map (fresh N es sum) (zip cs qs)
+unfolding freshOf freshAt fresh numbersOf placesOf entryTicks
+fresh-arrays N es sum cs qs f c m p q s t =
+    ext-getD (freshAt N f 0) (freshOf N f) (map (fresh N es sum) (zip cs qs))
+    (len ∙ sym c ∙ sym (length-fresh N es sum cs qs m))
+    (λ i h. one i (omega (arith, len)))
+  where
+    k : ℕ
+    k = f .count
+
+    len : length (map (freshAt N f) (below k)) ≡ k
+    len = length-map (below k) (freshAt N f) ∙ length-from 0 k
+
+    one : (i : ℕ) → i < k → getD (map (freshAt N f) (below k)) i (freshAt N f 0) ≡ getD (map (fresh N es sum) (zip cs qs)) i (freshAt N f 0)
+    one i h =
+        let page : getD (f .pages) i (record { 0 = 0 }) .0 ≡ getD cs i 0 =
+        sym (ap (λ (l : List ℕ). getD l i 0) (sym p) ∙ List·getD-map (λ (x : Page). x .0) (take k (f .pages)) i (record { 0 = 0 }) ∙ ap (λ (x : Page). x .0) (getD-take k (f .pages) i (record { 0 = 0 }) h)) in
+        let place : getD (f .places) i (record { 0 = 0 }) .0 ≡ getD qs i 0 =
+        sym (sym (getD-take k qs i 0 h) ∙ ap (λ (l : List ℕ). getD l i 0) (sym q) ∙ List·getD-map (λ (x : Place). x .0) (take k (f .places)) i (record { 0 = 0 })
+        ∙ ap (λ (x : Place). x .0) (getD-take k (f .places) i (record { 0 = 0 }) h)) in
+        let total : getD (f .sums) i 0 ≡ sum (getD cs i 0) =
+        sym (getD-take k (f .sums) i 0 h) ∙ ap (λ (l : List ℕ). getD l i 0) s ∙ get-map sum 0 0 i cs (omega arith) in
+        let tick : getD (f .entered) i (record { 0 = 0 }) ≡ enteredOr N (find (getD cs i 0) es) =
+        sym (getD-take k (f .entered) i (record { 0 = 0 }) h) ∙ ap (λ (l : List Tick). getD l i (record { 0 = 0 })) t
+        ∙ get-map (λ x. enteredOr N (find x es)) 0 (record { 0 = 0 }) i cs (omega arith) in
+        let z : 0 + i ≡ i = omega arith in
+        get-from (freshAt N f) (freshAt N f 0) 0 k i h ∙ ap (freshAt N f) z
+        ∙ (λ j. record { page = record { 0 = page j }; place = record { 0 = place j }; changed = N; sum = total j; entered = tick j })
+        ∙ sym (get-zip (fresh N es sum) (freshAt N f 0) i cs qs (omega arith) (omega arith))
+
+-- The ledger of a close.
+
+-- the flags of the rows say which entries give up their places
+module _ (c : Closing) (n : ℕ) (old : c .old ≡ entriesIn n (c .ledger)) (going : List Bool) (g : take n going ≡ map (gives c) (c .old)) where
+  flags : take (length (c .old)) going ≡ map (gives c) (c .old)
+  flags = ap (λ (k : ℕ). take k going) (ap length old ∙ length-entriesIn n (c .ledger)) ∙ g
+
+  pub others-stay : others going (entriesIn n (c .ledger)) ≡ staysOf c
+  others-stay = ap (others going) (sym old) ∙ others-keep (gives c) going (c .old) flags
+
+  pub later-in : laterIn (c .ledger) n going (newOf c) ≡ laterOf c
+  unfolding laterIn
+  later-in = ap (putAll (newOf c)) others-stay
+
+  held-given : (q : ℕ) → anyOf (at q) (picked going (entriesIn n (c .ledger))) ≡ givenUp (waitOf c) (now c) (c .changedIn) (c .old) q
+  held-given q = ap (λ (l : List Entry). anyOf (at q) l) (ap (picked going) (sym old) ∙ picked-keep (gives c) going (c .old) flags) ∙ any-keep (at q) (gives c) (c .old)
+
+  pub renewed-later : places (c .settings) ≤ 272 → lay (c .ledger) 0 (renewed (c .settings) (c .ledger) n going (newOf c) (now c)) ≡ ledgerLater c
+  unfolding renewed rowsAfter
+  renewed-later m =
+      rw (
+        later-in,
+        map-same (rowsAfter (c .settings) (now c) held (c .ledger)) (placeAfter (c .settings) (waitOf c) (now c) (c .changedIn) (c .old) (c .ledger)) (below (places (c .settings)))
+            (every-map (λ q h. one q (omega arith)) (below (places (c .settings))) (every-from 0 (places (c .settings)))),
+      )
+    where
+      held : List Bool
+      held = heldBy (picked going (entriesIn n (c .ledger)))
+
+      one : (q : ℕ) → q < 272 → rowAfter (c .settings) (waitOf c) (now c) (getD held q false) (c .ledger) q ≡ placeAfter (c .settings) (waitOf c) (now c) (c .changedIn) (c .old) (c .ledger) q
+      one q h =
+          ap (λ (b : Bool). rowAfter (c .settings) (waitOf c) (now c) b (c .ledger) q) (table-get (λ k. anyOf (at k) (picked going (entriesIn n (c .ledger)))) q h ∙ held-given q)
+          ∙ row-after (c .settings) (waitOf c) (now c) (c .changedIn) (c .old) (c .ledger) q
+
+  -- the ledger can be renewed
+  pub renews : limits (c .settings) ≡ true → ledgerLength (c .settings) ≤ length (c .ledger) → n ≤ entries (c .settings) → ascending 0 (map indexed (c .old)) ≡ true
+      → Every (λ e. placeOf e < places (c .settings)) (c .old) → (count : ℕ) → count ≤ 16 → length (newOf c) ≡ count → length (laterOf c) ≤ entries (c .settings) → Every Small (newOf c)
+      → Renews (c .settings) (c .ledger) n going (newOf c) count
+  renews l long few a placed count most k room small =
+      let m = places-most (c .settings) (limits-within (c .settings) l) in
+      record {
+        limited = l;
+        long = long;
+        few = few;
+        ascends = rw (← old) a;
+        placed = rw (← old) (every-map (λ e h. omega arith) (c .old) placed);
+        most = most;
+        room = rw others-stay (omega (arith, length-put (newOf c) (staysOf c)));
+        small = small;
+        rising = asc-new c;
+        alone = rw others-stay (new-pages c);
+      }
+
+-- Which entries go to the base: those after a close changed in it just when their last change is its tick.
+
+pub due-now : (c : Closing) → ascending 0 (map indexed (c .old)) ≡ true → apart (map indexed (c .old)) ≡ true → Every (λ e. e .changed .0 ≤ c .closed .0) (c .old)
+    → keep (isDueNow (waitOf c) (now c)) (laterOf c) ≡ dueOf c
+unfolding isDueNow isDue
+due-now c a b old = keep-same (isDueNow (waitOf c) (now c)) (dueIn c) (laterOf c) (every-map one (laterOf c) (later-facts c a b old))
+  where
+    by : (e : Entry) (b : Bool) → eqb (e .changed .0) (now c .0) ≡ b → c .changedIn (pageOf e) ≡ b
+        → Ages.due (waitOf c) (e .entered) (eqb (e .changed .0) (now c .0)) (now c) ≡ Ages.due (waitOf c) (e .entered) (c .changedIn (pageOf e)) (now c)
+    by e b p q = ap (λ (x : Bool). Ages.due (waitOf c) (e .entered) x (now c)) (p ∙ sym q)
+
+    one : (e : Entry) → IsNew c e ⊎ (IsStay c e × (e .changed .0 ≤ c .closed .0))
+        → Ages.due (waitOf c) (e .entered) (eqb (e .changed .0) (now c .0)) (now c) ≡ Ages.due (waitOf c) (e .entered) (c .changedIn (pageOf e)) (now c)
+    one e (inl x) = by e true (rw (x .went) (eq-eqb (now c .0) (now c .0) refl)) (x .is-changed)
+    one e (inr x) = by e false (ne-eqb (e .changed .0) (now c .0) (λ z. omega (arith, x .1))) (stay-split (waitOf c) (c .changedIn) e (now c) (x .0 .stays) .0)

@@ -1,0 +1,160 @@
+// Image places: which of them entries hold, which may be given at a close, and their rows after it. A table by place says of
+// each of the 272 places that any settings can have whether something holds of it.
+use sidefile::layout;
+use sidefile::rows::number;
+use sidefile::wide;
+use units::Place;
+use units::Settings;
+use units::Tick;
+ghost use mathlib.Core.Path.{_≡_};
+ghost use mathlib.Core.Bool.{true, not};
+ghost use mathlib.Core.List.{map};
+ghost use Prim.Native.Nat.{_≤_, _<_, _+_, _*_};
+ghost use lib.ListN.{length, take};
+ghost use Rattle.lists.specs.Below.{below};
+ghost use Rattle.lists.specs.Scans.{Every};
+ghost use Rattle.octets.specs.Part.{lay};
+ghost use Rattle.octets.specs.Rows.{join};
+ghost use Rattle.units.specs.Sizes as Sizes;
+ghost use Rattle.units.specs.Sizes.{entryRow, placeRow, limits, placesAt, ledgerLength};
+ghost use Rattle.sidefile.specs.Table.{placesFit};
+ghost use Rattle.ledger.specs.Entries.{placeOf};
+ghost use Rattle.ledger.specs.Flagged.{picked};
+ghost use Rattle.ledger.specs.Placed.{resting};
+ghost use Rattle.ledger.specs.Tables.{heldBy, placesOf, freeIn, rowAfter, rowsAfter};
+ghost use Rattle.ledger.specs.View.{indexed, entriesIn};
+
+// Which places entries hold, if each is below M and no two are one.
+pub struct Held {
+    pub apart: bool,
+    pub places: [bool; Settings::MOST_PLACES],
+}
+
+// Places that may be given, the lowest first.
+pub struct Free {
+    pub places: [Place; 16],
+    pub count: usize,
+}
+
+// The places of the entries in the marked rows.
+pub fn places_of(
+    s: &[u8],
+    n: usize,
+    marked: [bool; Settings::MOST_ENTRIES],
+) -> [bool; Settings::MOST_PLACES]
+    requires { ⌜ (n * entryRow ≤ length (now s)) × (n ≤ 144) × Every (λ e. placeOf e < 272) (entriesIn n (now s)) ⌝ }
+    ensures { λ r. ⌜ r ≡ heldBy (picked marked (entriesIn n (now (s .entry)))) ⌝ }
+{
+    let mut held = [false; Settings::MOST_PLACES];
+    let mut i: usize = 0;
+    while i < n {
+        if marked[i] {
+            let place = wide(number(s, 0, Settings::ENTRY_ROW, i, layout::PLACE));
+            held[place] = true;
+        }
+        i += 1;
+    }
+    held
+}
+
+// The places of all entries. The table counts only if they are apart.
+pub fn held_places(s: &[u8], n: usize, most: usize) -> Held
+    requires { ⌜ (n * entryRow ≤ length (now s)) × (most ≤ 272) ⌝ }
+    ensures { λ r. ⌜ (r .apart ≡ placesFit most (map indexed (entriesIn n (now (s .entry))))) × (r .apart ≡ true → r .places ≡ heldBy (entriesIn n (now (s .entry)))) ⌝ }
+{
+    let mut held = [false; Settings::MOST_PLACES];
+    let mut i: usize = 0;
+    while i < n {
+        let place = wide(number(s, 0, Settings::ENTRY_ROW, i, layout::PLACE));
+        if most <= place {
+            return Held {
+                apart: false,
+                places: held,
+            };
+        }
+        if held[place] {
+            return Held {
+                apart: false,
+                places: held,
+            };
+        }
+        held[place] = true;
+        i += 1;
+    }
+    Held {
+        apart: true,
+        places: held,
+    }
+}
+
+// The place is not retired, or has been for long enough at the close of `tick`.
+fn rested(s: &[u8], settings: Settings, q: usize, tick: Tick) -> bool
+    requires { ⌜ (limits settings ≡ true) × (ledgerLength settings ≤ length (now s)) × (q < Sizes.places settings) ⌝ }
+    ensures { λ r. ⌜ r ≡ not (resting settings (Sizes.wait settings) tick (now (s .entry)) q) ⌝ }
+{
+    let at = settings.places_at();
+    if number(s, at, Settings::PLACE_ROW, q, 0) == 0 {
+        return true;
+    }
+    Tick(number(s, at, Settings::PLACE_ROW, q, 1)).reusable(settings.wait(), tick)
+}
+
+// The lowest places that may be given at the close of `tick`: as many as wanted, or all that there are.
+pub fn free_places(s: &[u8], settings: Settings, n: usize, tick: Tick, wanted: usize) -> Free
+    requires { ⌜ (limits settings ≡ true) × (ledgerLength settings ≤ length (now s)) × (n ≤ Sizes.entries settings) × (placesFit (Sizes.places settings) (map indexed (entriesIn n (now s))) ≡ true) × (wanted ≤ 16) ⌝ }
+    ensures { λ r. ⌜ (r .count ≡ length (take wanted (freeIn settings n tick (now (s .entry))))) × (placesOf (r .count) (r .places) ≡ take wanted (freeIn settings n tick (now (s .entry)))) ⌝ }
+{
+    let m = settings.places();
+    let held = held_places(s, n, m);
+    let taken = held.places;
+    let mut places = [Place(0); 16];
+    let mut count: usize = 0;
+    let mut q: usize = 0;
+    while q < m {
+        if count == wanted {
+            break;
+        }
+        if !taken[q] {
+            if rested(s, settings, q, tick) {
+                places[count] = Place(q as u32);
+                count += 1;
+            }
+        }
+        q += 1;
+    }
+    Free { places, count }
+}
+
+// The row of a place after the close of `tick`, which may retire it.
+fn place_after(s: &mut [u8], settings: Settings, q: usize, retires: bool, tick: Tick)
+    requires { ⌜ (limits settings ≡ true) × (ledgerLength settings ≤ length (now s)) × (q < Sizes.places settings) ⌝ }
+    ensures { λ _. ⌜ now (s .exit) ≡ lay (now (s .entry)) (placesAt settings + q * placeRow) (rowAfter settings (Sizes.wait settings) tick «retires» (now (s .entry)) q) ⌝ }
+{
+    let at = settings.places_at() + q * Settings::PLACE_ROW;
+    if retires {
+        octets::store32(s, at, 1);
+        octets::store32(s, at + 4, tick.0);
+        return;
+    }
+    if rested(s, settings, q, tick) {
+        octets::clear(s, at, Settings::PLACE_ROW);
+    }
+}
+
+// The rows of all places after the close of `tick`; the table says which it retires.
+pub fn places_after(
+    s: &mut [u8],
+    settings: Settings,
+    retiring: [bool; Settings::MOST_PLACES],
+    tick: Tick,
+)
+    requires { ⌜ (limits settings ≡ true) × (ledgerLength settings ≤ length (now s)) ⌝ }
+    ensures { λ _. ⌜ now (s .exit) ≡ lay (now (s .entry)) (placesAt settings) (join (map (rowsAfter settings tick retiring (now (s .entry))) (below (Sizes.places settings)))) ⌝ }
+{
+    let m = settings.places();
+    let mut q: usize = 0;
+    while q < m {
+        place_after(s, settings, q, retiring[q], tick);
+        q += 1;
+    }
+}
