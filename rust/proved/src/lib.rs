@@ -3,7 +3,12 @@
 
 extern "C" {
     fn ungletice_lookup3(bytes: *const u8, length: usize, start: u32) -> u32;
-    fn ungletice_take(side: *const u8, side_length: usize, held: *mut u8, held_length: usize) -> u32;
+    fn ungletice_take(
+        side: *const u8,
+        side_length: usize,
+        held: *mut u8,
+        held_length: usize,
+    ) -> u32;
     fn ungletice_refresh(
         side: *const u8,
         side_length: usize,
@@ -82,7 +87,14 @@ pub struct Read {
 }
 
 /// The number alone, as a desk that has read the page before asks for it.
-pub fn read_number(side: &[u8], base: &[u8], held: &[u8], page: u32, offset: u32, length: u32) -> u32 {
+pub fn read_number(
+    side: &[u8],
+    base: &[u8],
+    held: &[u8],
+    page: u32,
+    offset: u32,
+    length: u32,
+) -> u32 {
     // SAFETY: the function reads inside the slices and writes nothing.
     unsafe {
         ungletice_read(
@@ -99,15 +111,27 @@ pub fn read_number(side: &[u8], base: &[u8], held: &[u8], page: u32, offset: u32
     }
 }
 
-pub fn desk_read(side: &[u8], base: &[u8], held: &[u8], page: u32, offset: u32, length: u32) -> Read {
+/// The read whole, as a desk that shows the page asks for it.
+pub fn desk_read(
+    side: &[u8],
+    base: &[u8],
+    held: &[u8],
+    page: u32,
+    offset: u32,
+    length: u32,
+) -> Read {
     let (s, b, h) = (side.as_ptr(), base.as_ptr(), held.as_ptr());
     let (sl, bl, hl) = (side.len(), base.len(), held.len());
-    // SAFETY: the three functions read inside the slices and write nothing.
-    unsafe {
-        Read {
-            number: ungletice_read(s, sl, b, bl, h, hl, page, offset, length),
-            source: ungletice_read_source(s, sl, b, bl, h, hl, page, offset, length),
-            offset: ungletice_read_offset(s, sl, b, bl, h, hl, page, offset, length),
-        }
+    // SAFETY: as for read_number.
+    let (source, offset_in) = unsafe {
+        (
+            ungletice_read_source(s, sl, b, bl, h, hl, page, offset, length),
+            ungletice_read_offset(s, sl, b, bl, h, hl, page, offset, length),
+        )
+    };
+    Read {
+        number: read_number(side, base, held, page, offset, length),
+        source,
+        offset: offset_in,
     }
 }

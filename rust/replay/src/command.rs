@@ -27,7 +27,7 @@ pub fn run(words: &[String]) -> Result<ExitCode, String> {
     }
 }
 
-fn on(version: &dyn Version, words: &[&str]) -> Result<ExitCode, String> {
+fn on(version: Version, words: &[&str]) -> Result<ExitCode, String> {
     match words {
         ["--coverage", files @ ..] if !files.is_empty() => print_coverage(version, files),
         [file] if !file.starts_with("--") => print_replay(version, file),
@@ -38,7 +38,7 @@ fn on(version: &dyn Version, words: &[&str]) -> Result<ExitCode, String> {
     }
 }
 
-fn print_replay(version: &dyn Version, file: &str) -> Result<ExitCode, String> {
+fn print_replay(version: Version, file: &str) -> Result<ExitCode, String> {
     let text = script_text(file)?;
     let mut out = BufWriter::new(io::stdout().lock());
     let end = output::replay(version, &text, &mut out);
@@ -50,7 +50,7 @@ fn print_replay(version: &dyn Version, file: &str) -> Result<ExitCode, String> {
     }
 }
 
-fn print_coverage(version: &dyn Version, files: &[&str]) -> Result<ExitCode, String> {
+fn print_coverage(version: Version, files: &[&str]) -> Result<ExitCode, String> {
     let mut tally = Tally::new();
     for file in files {
         let text = script_text(file)?;

@@ -59,11 +59,7 @@ pub fn observe(step: &Step, tally: &mut Tally) {
 }
 
 /// Plays a script and counts what its calls reached.
-pub fn observe_script(
-    version: &dyn Version,
-    text: &str,
-    tally: &mut Tally,
-) -> Result<(), ScriptError> {
+pub fn observe_script(version: Version, text: &str, tally: &mut Tally) -> Result<(), ScriptError> {
     let mut machine = Machine::new(version);
     for line in script::parse(text)? {
         if let Item::Call(call) = &line.item {

@@ -1,10 +1,10 @@
-//! The version written a second time in plain Rust. Its calls are those of the trait, one to one.
+//! The version written a second time in plain Rust. Its calls are those of the traits, one to one.
 
-use crate::version::{Answer, Found, Lent, Settings, State, Version};
+use crate::version::{Answer, DeskCalls, Found, Lent, RecorderCalls, Settings, State};
 
 pub struct Plain;
 
-impl Version for Plain {
+impl RecorderCalls for Plain {
     fn open(&self, settings: Settings, end: u32, tick: u32, lent: &mut Lent) -> Answer {
         plain::open(settings, end, tick, lent)
     }
@@ -31,7 +31,9 @@ impl Version for Plain {
     fn close(&self, state: State, lent: &mut Lent) -> Answer {
         plain::close(state, lent)
     }
+}
 
+impl DeskCalls for Plain {
     fn take(&self, side: &[u8], held: &mut [u8]) -> u32 {
         plain::take(side, held)
     }
@@ -40,7 +42,7 @@ impl Version for Plain {
         plain::refresh(side, held, marks)
     }
 
-    fn desk_read<'a>(
+    fn read<'a>(
         &self,
         side: &'a [u8],
         base: &'a [u8],

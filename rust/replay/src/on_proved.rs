@@ -1,38 +1,10 @@
-//! The proved version, through the C boundary. The desk's calls are there; the recorder's are not yet, so those are played on
-//! the plain version, and what is compared is the desk's.
+//! The proved version, through the C boundary: the desk's calls.
 
-use crate::version::{Answer, Found, Lent, Settings, State, Version};
+use crate::version::{DeskCalls, Found};
 
 pub struct Proved;
 
-impl Version for Proved {
-    fn open(&self, settings: Settings, end: u32, tick: u32, lent: &mut Lent) -> Answer {
-        plain::open(settings, end, tick, lent)
-    }
-
-    fn read(
-        &self,
-        state: State,
-        lent: &mut Lent,
-        page: u32,
-        offset: u32,
-        into: &mut [u8],
-    ) -> Answer {
-        plain::read(state, lent, page, offset, into)
-    }
-
-    fn write(&self, state: State, lent: &mut Lent, page: u32, offset: u32, from: &[u8]) -> Answer {
-        plain::write(state, lent, page, offset, from)
-    }
-
-    fn grow(&self, state: State, lent: &mut Lent, kind: u32) -> Answer {
-        plain::grow(state, lent, kind)
-    }
-
-    fn close(&self, state: State, lent: &mut Lent) -> Answer {
-        plain::close(state, lent)
-    }
-
+impl DeskCalls for Proved {
     fn take(&self, side: &[u8], held: &mut [u8]) -> u32 {
         proved::take(side, held)
     }
@@ -42,7 +14,7 @@ impl Version for Proved {
     }
 
     /// The bytes are found as a C program finds them: by the slice and the offset that the companions answer.
-    fn desk_read<'a>(
+    fn read<'a>(
         &self,
         side: &'a [u8],
         base: &'a [u8],

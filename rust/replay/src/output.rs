@@ -29,7 +29,7 @@ impl From<io::Error> for Stop {
 }
 
 /// Plays a script and writes its output lines.
-pub fn replay(version: &dyn Version, text: &str, out: &mut dyn Write) -> Result<(), Stop> {
+pub fn replay(version: Version, text: &str, out: &mut dyn Write) -> Result<(), Stop> {
     let mut machine = Machine::new(version);
     for line in script::parse(text)? {
         let reply = machine

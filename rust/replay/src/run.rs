@@ -4,7 +4,7 @@ use crate::buffers::{Buffer, Buffers};
 use crate::pattern::pattern;
 use crate::recorder::Recorder;
 use crate::script::{Call, Item};
-use crate::version::{Answer, Lent, Settings, State, Version};
+use crate::version::{Answer, Lent, RecorderCalls, Settings, State, Version};
 
 /// What stands in the slice of a recorder read before the call.
 const UNREAD: u8 = 0xee;
@@ -40,13 +40,13 @@ pub enum Handed {
 }
 
 /// A version and the world it has worked on so far.
-pub struct Machine<'v> {
-    pub version: &'v dyn Version,
+pub struct Machine {
+    pub version: Version,
     pub world: World,
 }
 
-impl<'v> Machine<'v> {
-    pub fn new(version: &'v dyn Version) -> Machine<'v> {
+impl Machine {
+    pub fn new(version: Version) -> Machine {
         Machine { version, world: World::default() }
     }
 
@@ -72,21 +72,21 @@ impl<'v> Machine<'v> {
             Call::Open { settings, end, tick } => plain_reply(self.open(settings, end, tick)),
             Call::Read { page, offset, length } => {
                 let mut dest = vec![UNREAD; length];
-                let number = self.with_state(|version, state, lent| {
-                    version.read(state, lent, page, offset, &mut dest)
+                let number = self.with_state(|recorder, state, lent| {
+                    recorder.read(state, lent, page, offset, &mut dest)
                 });
                 Reply { number, handed: Handed::Dest(dest) }
             }
             Call::Write { page, offset, ref data } => {
-                plain_reply(self.with_state(|version, state, lent| {
-                    version.write(state, lent, page, offset, data)
+                plain_reply(self.with_state(|recorder, state, lent| {
+                    recorder.write(state, lent, page, offset, data)
                 }))
             }
-            Call::Grow { kind } => {
-                plain_reply(self.with_state(|version, state, lent| version.grow(state, lent, kind)))
-            }
+            Call::Grow { kind } => plain_reply(
+                self.with_state(|recorder, state, lent| recorder.grow(state, lent, kind)),
+            ),
             Call::Close => {
-                plain_reply(self.with_state(|version, state, lent| version.close(state, lent)))
+                plain_reply(self.with_state(|recorder, state, lent| recorder.close(state, lent)))
             }
             Call::Take => plain_reply(self.take()),
             Call::Refresh => plain_reply(self.refresh()),
@@ -97,7 +97,7 @@ impl<'v> Machine<'v> {
     /// A refused open keeps the state there was.
     fn open(&mut self, settings: Settings, end: u32, tick: u32) -> u32 {
         let (_, lent) = &mut lend(&mut self.world);
-        let answer = self.version.open(settings, end, tick, lent);
+        let answer = self.version.recorder.open(settings, end, tick, lent);
         if answer.number == 0 {
             self.world.recorder.opened(answer.state);
         }
@@ -106,30 +106,33 @@ impl<'v> Machine<'v> {
 
     /// The other recorder calls hand a state back also where they refuse; it is taken over as it
     /// comes, so that a refusal which changes it shows.
-    fn with_state(&mut self, call: impl FnOnce(&dyn Version, State, &mut Lent) -> Answer) -> u32 {
+    fn with_state(
+        &mut self,
+        call: impl FnOnce(&dyn RecorderCalls, State, &mut Lent) -> Answer,
+    ) -> u32 {
         if !self.world.recorder.is_expressible() {
             return BROKEN_STATE;
         }
         let (state, mut lent) = lend(&mut self.world);
-        let answer = call(self.version, state, &mut lent);
+        let answer = call(self.version.recorder, state, &mut lent);
         self.world.recorder.answered(answer.state);
         answer.number
     }
 
     fn take(&mut self) -> u32 {
         let Buffers { side, held, .. } = &mut self.world.buffers;
-        self.version.take(side.lent(), held.lent_mut())
+        self.version.desk.take(side.lent(), held.lent_mut())
     }
 
     fn refresh(&mut self) -> u32 {
         let Buffers { side, held, marks, .. } = &mut self.world.buffers;
-        self.version.refresh(side.lent(), held.lent_mut(), marks.lent_mut())
+        self.version.desk.refresh(side.lent(), held.lent_mut(), marks.lent_mut())
     }
 
     fn desk_read(&mut self, page: u32, offset: u32, length: u32) -> Reply {
         let Buffers { base, side, held, .. } = &self.world.buffers;
         let found =
-            self.version.desk_read(side.lent(), base.lent(), held.lent(), page, offset, length);
+            self.version.desk.read(side.lent(), base.lent(), held.lent(), page, offset, length);
         let handed = Handed::Found {
             source: found.source,
             offset: found.offset,

@@ -8,9 +8,9 @@ use crate::version::Version;
 const LONGEST_INDEX: usize = HEADER + ROW * 144;
 
 /// The listing, each line with its line feed; a refused file's is the word and take's number.
-pub fn sidelist(version: &dyn Version, side: &[u8]) -> String {
+pub fn sidelist(version: Version, side: &[u8]) -> String {
     let mut held = vec![0; LONGEST_INDEX];
-    match (version.take(side, &mut held), Header::decode(&held)) {
+    match (version.desk.take(side, &mut held), Header::decode(&held)) {
         (0, Some(header)) => accepted(&held, &header),
         (number, _) => format!("refused {number}\n"),
     }

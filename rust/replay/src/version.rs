@@ -2,10 +2,13 @@
 //! bytes. The structs are those of `plain`; another version translates to and from them in a file
 //! of its own.
 
+use crate::on_plain::Plain;
+use crate::on_proved::Proved;
+
 pub use plain::{Answer, Counts, Found, Lent, Settings, Slots, State, EMPTY};
 
-/// The eight calls. Each takes any input and answers; number 0 is accepted.
-pub trait Version {
+/// The recorder's five calls. Each takes any input and answers; number 0 is accepted.
+pub trait RecorderCalls {
     fn open(&self, settings: Settings, end: u32, tick: u32, lent: &mut Lent) -> Answer;
     fn read(
         &self,
@@ -18,10 +21,13 @@ pub trait Version {
     fn write(&self, state: State, lent: &mut Lent, page: u32, offset: u32, from: &[u8]) -> Answer;
     fn grow(&self, state: State, lent: &mut Lent, kind: u32) -> Answer;
     fn close(&self, state: State, lent: &mut Lent) -> Answer;
+}
 
+/// The desk's three, likewise.
+pub trait DeskCalls {
     fn take(&self, side: &[u8], held: &mut [u8]) -> u32;
     fn refresh(&self, side: &[u8], held: &mut [u8], marks: &mut [u8]) -> u32;
-    fn desk_read<'a>(
+    fn read<'a>(
         &self,
         side: &'a [u8],
         base: &'a [u8],
@@ -32,11 +38,18 @@ pub trait Version {
     ) -> Found<'a>;
 }
 
-/// The version that a word after `--on` names; a line that says why there is none.
-pub fn named(word: &str) -> Result<&'static dyn Version, String> {
+#[derive(Clone, Copy)]
+pub struct Version {
+    pub recorder: &'static dyn RecorderCalls,
+    pub desk: &'static dyn DeskCalls,
+}
+
+/// The version that a word after `--on` names; a line that says why there is none. The proved recorder does not stand
+/// behind the C boundary yet, so `proved` plays those calls on the plain one, and what it tells is the desk's.
+pub fn named(word: &str) -> Result<Version, String> {
     match word {
-        "plain" => Ok(&crate::on_plain::Plain),
-        "proved" => Ok(&crate::on_proved::Proved),
+        "plain" => Ok(Version { recorder: &Plain, desk: &Plain }),
+        "proved" => Ok(Version { recorder: &Plain, desk: &Proved }),
         _ => Err(format!("no version is named '{word}'")),
     }
 }

@@ -43,7 +43,7 @@ impl Files {
     }
 
     fn open(&mut self) -> Answer {
-        plain().open(SETTINGS, 4, 0, &mut self.lent())
+        plain().recorder.open(SETTINGS, 4, 0, &mut self.lent())
     }
 
     fn opened(&mut self) -> State {
@@ -56,10 +56,10 @@ impl Files {
     fn answers(&mut self, state: State) -> [u32; 4] {
         let mut into = [0xee; 4];
         [
-            plain().read(state, &mut self.lent(), 0, 0, &mut into).number,
-            plain().write(state, &mut self.lent(), 0, 0, &[1]).number,
-            plain().grow(state, &mut self.lent(), 2).number,
-            plain().close(state, &mut self.lent()).number,
+            plain().recorder.read(state, &mut self.lent(), 0, 0, &mut into).number,
+            plain().recorder.write(state, &mut self.lent(), 0, 0, &[1]).number,
+            plain().recorder.grow(state, &mut self.lent(), 2).number,
+            plain().recorder.close(state, &mut self.lent()).number,
         ]
     }
 }
@@ -78,15 +78,15 @@ fn the_ledger_must_be_long_enough() {
 fn the_rest_of_a_longer_ledger_is_not_written() {
     let mut files = Files::new(ledger::LENGTH);
     let state = files.opened();
-    let written = plain().write(state, &mut files.lent(), 0, 0, &[1]);
-    assert_eq!(plain().close(written.state, &mut files.lent()).number, 0);
+    let written = plain().recorder.write(state, &mut files.lent(), 0, 0, &[1]);
+    assert_eq!(plain().recorder.close(written.state, &mut files.lent()).number, 0);
     assert!(files.ledger[LEDGER..].iter().all(|&byte| byte == 0xee));
 }
 
 #[test]
 fn a_refused_open_answers_the_zero_state_and_leaves_the_ledger() {
     let mut files = Files::new(LEDGER);
-    let answer = plain().open(SETTINGS, 5, 0, &mut files.lent());
+    let answer = plain().recorder.open(SETTINGS, 5, 0, &mut files.lent());
     assert_eq!(answer.number, 1);
     assert_eq!(answer.state, State::default());
     assert!(files.ledger.iter().all(|&byte| byte == 0xee));
@@ -130,10 +130,10 @@ fn flags_and_spare_order() {
     state.slots.order = [7; 16];
     state.slots.order[0] = 2;
     state.slots.used = 1;
-    let closed = plain().close(state, &mut files.lent());
+    let closed = plain().recorder.close(state, &mut files.lent());
     assert_eq!((closed.number, closed.state.entries), (0, 1));
     assert_eq!(closed.state.slots.changed, [0; 16]);
-    let read = plain().read(closed.state, &mut files.lent(), 1, 0, &mut [0]);
+    let read = plain().recorder.read(closed.state, &mut files.lent(), 1, 0, &mut [0]);
     assert_eq!(read.number, 0);
     assert_eq!(read.state.slots.order[..2], [2, 1]);
     assert_eq!(read.state.slots.order[2..], [7; 14]);
@@ -144,13 +144,13 @@ fn flags_and_spare_order() {
 #[test]
 fn writes_and_grows_set_the_flag_to_1() {
     let mut files = Files::new(LEDGER);
-    let answer = plain().open(SETTINGS, 3, 0, &mut files.lent());
-    let mut state = plain().write(answer.state, &mut files.lent(), 0, 0, &[1]).state;
+    let answer = plain().recorder.open(SETTINGS, 3, 0, &mut files.lent());
+    let mut state = plain().recorder.write(answer.state, &mut files.lent(), 0, 0, &[1]).state;
     assert_eq!(state.slots.changed[..2], [1, 0]);
     state.slots.changed[0] = 255;
-    let state = plain().write(state, &mut files.lent(), 0, 0, &[1]).state;
+    let state = plain().recorder.write(state, &mut files.lent(), 0, 0, &[1]).state;
     assert_eq!(state.slots.changed[..2], [1, 0]);
-    let grown = plain().grow(state, &mut files.lent(), 0);
+    let grown = plain().recorder.grow(state, &mut files.lent(), 0);
     assert_eq!((grown.number, &grown.state.slots.changed[..2]), (0, &[1, 1][..]));
 }
 
@@ -161,14 +161,17 @@ fn the_largest_file() {
     let mut files = Files::new(ledger::LENGTH);
     files.base = vec![1; 65_535 * 512];
     files.kinds = vec![0; 65_535];
-    let opened = plain().open(settings, 65_535, 0, &mut files.lent());
+    let opened = plain().recorder.open(settings, 65_535, 0, &mut files.lent());
     assert_eq!(opened.number, 0);
     let mut into = [0; 1];
-    let read = plain().read(opened.state, &mut files.lent(), 65_534, 511, &mut into);
+    let read = plain().recorder.read(opened.state, &mut files.lent(), 65_534, 511, &mut into);
     assert_eq!((read.number, into), (0, [1]));
-    assert_eq!(plain().read(read.state, &mut files.lent(), 65_535, 0, &mut into).number, 4);
+    assert_eq!(
+        plain().recorder.read(read.state, &mut files.lent(), 65_535, 0, &mut into).number,
+        4
+    );
     files.kinds.pop();
-    assert_eq!(plain().close(read.state, &mut files.lent()).number, 2);
+    assert_eq!(plain().recorder.close(read.state, &mut files.lent()).number, 2);
 }
 
 /// The desk gets a part of the very slice it lent, and on a refusal the empty part at the base's
@@ -180,7 +183,7 @@ fn desk_reads_hand_out_parts_of_the_lent_slices() {
     let buffers = &read.before.buffers;
     let (side, base, held) = (buffers.side.lent(), buffers.base.lent(), buffers.held.lent());
     for (page, length, number) in [(2, 5, 0), (3, 5, 0), (4, 5, 4), (2, 0, 6)] {
-        let found = plain().desk_read(side, base, held, page, 7, length);
+        let found = plain().desk.read(side, base, held, page, 7, length);
         assert_eq!(found.number, number);
         let lent = if found.source == 1 { side } else { base };
         assert_eq!(found.source, u32::from(page == 2 && number == 0));

@@ -9,7 +9,7 @@ use replay::version::{self, Version};
 const SEEDS: u64 = 60;
 const CALLS: u64 = 600;
 
-fn lines(version: &dyn Version, script: &str) -> Vec<String> {
+fn lines(version: Version, script: &str) -> Vec<String> {
     let mut out = Vec::new();
     replay(version, script, &mut out).expect("a script");
     String::from_utf8(out).expect("text").lines().map(String::from).collect()

@@ -12,7 +12,7 @@ use crate::version;
 
 pub struct Draft {
     text: String,
-    machine: Machine<'static>,
+    machine: Machine,
     pub random: Random,
     pub decks: Decks,
     left: u64,

@@ -8,7 +8,7 @@ use replay::run::{Machine, Reply, World};
 use replay::script::{self, Call, Item};
 use replay::version::{self, Version};
 
-pub fn plain() -> &'static dyn Version {
+pub fn plain() -> Version {
     version::named("plain").expect("the plain version")
 }
 
