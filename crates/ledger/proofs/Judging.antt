@@ -19,7 +19,8 @@ use Rattle.sidefile.specs.Table.{column, pagesFit, placesFit}
 use Rattle.ledger.specs.declared.Entry.{Entry}
 use Rattle.ledger.specs.View.{indexed, entryOf, entriesIn, placeRowAt, retired, retiredAt}
 use Rattle.ledger.specs.Entries.{pageOf, at, isOwed}
-use Rattle.ledger.specs.Fits.{ticksFit, placeFits, ledgerFits, fits-pages, fits-ticks, fits-places, fits-retired, fits-all}
+use Rattle.ledger.specs.Rules.{ledgerRules}
+use Rattle.ledger.specs.Fits.{ticksFit, placeFits, fits-pages, fits-ticks, fits-places, fits-retired, fits-all}
 use Rattle.ledger.specs.Lists.{any-snoc, below-snoc, all-same}
 use Rattle.ledger.specs.Read.{entry-next, entries-end}
 use Rattle.ledger.specs.Tables.{heldBy, table-get}
@@ -160,7 +161,7 @@ held-judged s closed xs es held e m =
 
 module _ (s : Settings) (end : ℕ) (closed : Tick) (seated : ℕ → Bool) (n : ℕ) (xs : List ℕ) where
   abbrev verdict : Bool
-  verdict = ledgerFits s end closed seated n xs
+  verdict = ledgerRules s end closed seated n xs
 
   pub judge-pages : pagesFit end (map indexed (entriesIn n xs)) ≡ false → false ≡ verdict
   judge-pages e = sym (false-of verdict (λ h. not-both (pagesFit end (map indexed (entriesIn n xs))) (fits-pages s end closed seated n xs h) e))

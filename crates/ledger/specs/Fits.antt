@@ -1,5 +1,4 @@
--- The state rules of document 01 that speak of the ledger: those of one entry, and those of all entries and places. `seated`
--- says which pages are in slots. And the same rules as the code judges them, one pass to each. Assumes nothing.
+-- The ledger's rules as the code judges them, one pass to each, and that together they are `ledgerRules`. Assumes nothing.
 use Prim.Native.Nat.{ℕ}
 use mathlib.Core.Path.{_≡_, refl, _∙_, sym, ap}
 use mathlib.Core.Bool.{Bool, true, false, not, _&&_, _||_}
@@ -21,31 +20,12 @@ use Rattle.sidefile.specs.Table.{pagesFit, placesFit, all-seen}
 use Rattle.ledger.specs.declared.Entry.{Entry}
 use Rattle.ledger.specs.View.{indexed, entriesIn, retired, retiredAt}
 use Rattle.ledger.specs.Entries.{pageOf, placeOf, at, isOwed}
-use Rattle.ledger.specs.Guarded.{retiredBy}
+use Rattle.ledger.specs.Rules.{entryRules, retiredBy, ledgerRules}
 use Rattle.ledger.specs.Ordered.{self-at}
 
 -- page p is in one of the first S seats
 unfoldable pub sits : ℕ → List Page → ℕ → Bool
 sits S seats p = anyOf (λ i. eqb (getD seats i (record { 0 = 0 }) .0) p) (below S)
-
--- one entry: its page below e, entry tick at most last change at most closed tick, owed only in a slot, its place below M and
--- not retired
-unfoldable pub entryFits : Settings → ℕ → Tick → (ℕ → Bool) → List ℕ → Entry → Bool
-entryFits s end closed seated ledger e =
-    ltb (pageOf e) end
-    && leb (e .entered .0) (e .changed .0)
-    && leb (e .changed .0) (closed .0)
-    && (not (isOwed (wait s) closed e) || seated (pageOf e))
-    && ltb (placeOf e) (places s)
-    && not (retired s ledger (placeOf e))
-
--- the first n entries, and all places
-unfoldable pub ledgerFits : Settings → ℕ → Tick → (ℕ → Bool) → ℕ → List ℕ → Bool
-ledgerFits s end closed seated n ledger =
-    ascending 0 (map indexed (entriesIn n ledger))
-    && allOf (entryFits s end closed seated ledger) (entriesIn n ledger)
-    && apart (map indexed (entriesIn n ledger))
-    && allOf (retiredBy s ledger closed) (below (places s))
 
 -- what one pass asks of an entry, and another of a place that some entry holds or not
 unfoldable pub ticksFit : ℕ → Tick → (ℕ → Bool) → Entry → Bool
@@ -74,8 +54,8 @@ module _ (s : Settings) (end : ℕ) (closed : Tick) (seated : ℕ → Bool) (led
   free = not (retired s ledger (placeOf e))
 
   -- an entry's rules by the passes that judge them
-  entry-split : entryFits s end closed seated ledger e ≡ true → (low ≡ true) × (ticksFit (wait s) closed seated e ≡ true) × (there ≡ true) × (free ≡ true)
-  unfolding entryFits ticksFit
+  entry-split : entryRules s end closed seated ledger e ≡ true → (low ≡ true) × (ticksFit (wait s) closed seated e ≡ true) × (there ≡ true) × (free ≡ true)
+  unfolding entryRules ticksFit
   entry-split h =
       let a = both (low && early && late && kept && there) free h in
       let b = both (low && early && late && kept) there (a .0) in
@@ -84,8 +64,8 @@ module _ (s : Settings) (end : ℕ) (closed : Tick) (seated : ℕ → Bool) (led
       let f = both low early (d .0) in
       (f .0, and-make (early && late) kept (and-make early late (f .1) (d .1)) (c .1), b .1, a .1)
 
-  entry-make : low ≡ true → ticksFit (wait s) closed seated e ≡ true → there ≡ true → free ≡ true → entryFits s end closed seated ledger e ≡ true
-  unfolding entryFits ticksFit
+  entry-make : low ≡ true → ticksFit (wait s) closed seated e ≡ true → there ≡ true → free ≡ true → entryRules s end closed seated ledger e ≡ true
+  unfolding entryRules ticksFit
   entry-make p t q f =
       let a = both (early && late) kept t in
       let b = both early late (a .0) in
@@ -98,15 +78,15 @@ module _ (s : Settings) (end : ℕ) (closed : Tick) (seated : ℕ → Bool) (n :
   es = entriesIn n ledger
 
   abbrev fits : Entry → Bool
-  fits e = entryFits s end closed seated ledger e
+  fits e = entryRules s end closed seated ledger e
 
   abbrev placeFit : ℕ → Bool
   placeFit q = placeFits s closed ledger (anyOf (at q) es) q
 
   -- the rules one by one
-  split : ledgerFits s end closed seated n ledger ≡ true
+  split : ledgerRules s end closed seated n ledger ≡ true
       → (ascending 0 (map indexed es) ≡ true) × Every (λ e. fits e ≡ true) es × (apart (map indexed es) ≡ true) × Every (λ q. retiredBy s ledger closed q ≡ true) (below (places s))
-  unfolding ledgerFits
+  unfolding ledgerRules
   split h =
       let a = ascending 0 (map indexed es) in
       let b = allOf fits es in
@@ -118,17 +98,17 @@ module _ (s : Settings) (end : ℕ) (closed : Tick) (seated : ℕ → Bool) (n :
       (z .0, allOf-every fits es (z .1), y .1, allOf-every (retiredBy s ledger closed) (below (places s)) (x .1))
 
   -- what passes the rules passes each pass
-  pub fits-pages : ledgerFits s end closed seated n ledger ≡ true → pagesFit end (map indexed es) ≡ true
+  pub fits-pages : ledgerRules s end closed seated n ledger ≡ true → pagesFit end (map indexed es) ≡ true
   unfolding pagesFit
   fits-pages h =
       let f = split h in
       and-make (ascending 0 (map indexed es)) (allOf (λ (x : IndexEntry). ltb (x .page .0) end) (map indexed es)) (f .0)
       (all-seen indexed (λ (x : IndexEntry). ltb (x .page .0) end) es ∙ every-allOf (λ e. ltb (pageOf e) end) (λ e k. entry-split s end closed seated ledger e k .0) es (f .1))
 
-  pub fits-ticks : ledgerFits s end closed seated n ledger ≡ true → allOf (ticksFit (wait s) closed seated) es ≡ true
+  pub fits-ticks : ledgerRules s end closed seated n ledger ≡ true → allOf (ticksFit (wait s) closed seated) es ≡ true
   fits-ticks h = every-allOf (ticksFit (wait s) closed seated) (λ e k. entry-split s end closed seated ledger e k .1) es (split h .1)
 
-  pub fits-places : ledgerFits s end closed seated n ledger ≡ true → placesFit (places s) (map indexed es) ≡ true
+  pub fits-places : ledgerRules s end closed seated n ledger ≡ true → placesFit (places s) (map indexed es) ≡ true
   unfolding placesFit
   fits-places h =
       let f = split h in
@@ -136,7 +116,7 @@ module _ (s : Settings) (end : ℕ) (closed : Tick) (seated : ℕ → Bool) (n :
       (all-seen indexed (λ (x : IndexEntry). ltb (x .place .0) (places s)) es ∙ every-allOf (λ e. ltb (placeOf e) (places s)) (λ e k. entry-split s end closed seated ledger e k .2) es (f .1))
       (f .2)
 
-  pub fits-retired : ledgerFits s end closed seated n ledger ≡ true → allOf placeFit (below (places s)) ≡ true
+  pub fits-retired : ledgerRules s end closed seated n ledger ≡ true → allOf placeFit (below (places s)) ≡ true
   unfolding placeFits at
   fits-retired h =
       let f = split h in
@@ -155,8 +135,8 @@ module _ (s : Settings) (end : ℕ) (closed : Tick) (seated : ℕ → Bool) (n :
 
   -- and what passes every pass passes the rules
   pub fits-all : pagesFit end (map indexed es) ≡ true → allOf (ticksFit (wait s) closed seated) es ≡ true → placesFit (places s) (map indexed es) ≡ true
-      → allOf placeFit (below (places s)) ≡ true → ledgerFits s end closed seated n ledger ≡ true
-  unfolding ledgerFits pagesFit placesFit placeFits
+      → allOf placeFit (below (places s)) ≡ true → ledgerRules s end closed seated n ledger ≡ true
+  unfolding ledgerRules pagesFit placesFit placeFits
   fits-all p t q r =
       let a = ascending 0 (map indexed es) in
       let c = apart (map indexed es) in

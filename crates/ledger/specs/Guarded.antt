@@ -22,6 +22,7 @@ use Rattle.ledger.specs.declared.Entry.{Entry}
 use Rattle.ledger.specs.View.{indexed, entriesIn, retired, retiredAt}
 use Rattle.ledger.specs.Entries.{placeOf, at}
 use Rattle.ledger.specs.Rowed.{Small}
+use Rattle.ledger.specs.Rules.{retiredBy}
 use Rattle.ledger.specs.Placed.{ledgerClosed, givenUp, resting, closed-entries, closed-retires, closed-rests, closed-frees, closed-since}
 use Rattle.ledger.specs.Ordered.{any-put}
 use Rattle.ledger.specs.Closing.{Closing, now, waitOf, mayTake, gives, newOf, staysOf, laterOf, IsNew, IsStay, free-place, new-facts, later-facts}
@@ -33,10 +34,6 @@ ledgerLater c = ledgerClosed (c .settings) (waitOf c) (now c) (c .changedIn) (c 
 -- a place that a desk of tick t may still read: an entry has it, or it was retired after t
 abbrev pub Guarded : Settings → ℕ → List Entry → List ℕ → ℕ → Type 0
 Guarded s t es ledger q = (anyOf (at q) es ≡ true) ⊎ ((retired s ledger q ≡ true) × (t < retiredAt s ledger q .0))
-
--- a retired place was retired by then
-abbrev pub retiredBy : Settings → List ℕ → Tick → ℕ → Bool
-retiredBy s ledger t q = not (retired s ledger q) || leb (retiredAt s ledger q .0) (t .0)
 
 module _ (c : Closing) where
   -- a place that was retired after t rests within the wait of t

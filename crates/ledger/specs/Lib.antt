@@ -14,6 +14,7 @@ pub mod Placed
 pub mod Read
 pub mod Renewed
 pub mod Rowed
+pub mod Rules
 pub mod Search
 pub mod Tables
 pub mod View

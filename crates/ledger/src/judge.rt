@@ -20,7 +20,8 @@ ghost use Rattle.units.specs.Sizes as Sizes;
 ghost use Rattle.units.specs.Sizes.{entryRow, limits, ledgerLength};
 ghost use Rattle.ledger.specs.Entries.{pageOf};
 ghost use Rattle.ledger.specs.Fits as Fits;
-ghost use Rattle.ledger.specs.Fits.{ledgerFits, ticksFit, placeFits};
+ghost use Rattle.ledger.specs.Fits.{ticksFit, placeFits};
+ghost use Rattle.ledger.specs.Rules.{ledgerRules};
 ghost use Rattle.ledger.specs.View.{entriesIn};
 
 // The page is in one of the first `slots` seats. No early return: the compiler then compares several at once.
@@ -101,7 +102,7 @@ pub fn keeps_rules(
     seats: [Page; 16],
 ) -> bool
     requires { ⌜ (limits settings ≡ true) × (ledgerLength settings ≤ length (now s)) × (n ≤ Sizes.entries settings) ⌝ }
-    ensures { λ r. ⌜ r ≡ ledgerFits settings end closed (Fits.sits (settings .slots) seats) n (now (s .entry)) ⌝ }
+    ensures { λ r. ⌜ r ≡ ledgerRules settings end closed (Fits.sits (settings .slots) seats) n (now (s .entry)) ⌝ }
 {
     if !ascending_below(s, 0, Settings::ENTRY_ROW, n, end) {
         return false;

@@ -20,7 +20,7 @@ use Rattle.ledger.specs.View.{indexed, placeRowAt, retired, retiredAt}
 use Rattle.ledger.specs.declared.Entry.{Entry}
 use Rattle.recorder.specs.World.{World, setState, pageSize, slotCount, entriesOf, kindOf, slotBytes, baseBytes, imageBytes, slotFor}
 use Rattle.recorder.specs.declared.State.{State}
-use Rattle.promises.specs.Facts.{Ruled, EntryFacts, Lengths, seats, end-small}
+use Rattle.recorder.specs.Facts.{Ruled, EntryFacts, Lengths, seats, end-small}
 use Rattle.promises.specs.Fronts.{Front, front-take, front-row, front-get}
 
 -- w with the slices of v

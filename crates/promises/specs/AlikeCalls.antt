@@ -29,7 +29,7 @@ use Rattle.recorder.specs.World.{World, Reply, refuse, accept, setBase, pageSiz
 use Rattle.promises.specs.AlikeSlices.{lent-next, lent-slots, span-same, page-same, pages-same, span-read}
 use Rattle.promises.specs.Agree.{Agree, last, next, agree-same, agree-append, agree-passes, agree-tested}
 use Rattle.promises.specs.Alike.{withSlices, Lent, Alike, same-entries, same-kind, same-base, same-slot, in-file, ruled-slices}
-use Rattle.promises.specs.Facts.{Ruled, ruled-passes, seats, end-small}
+use Rattle.recorder.specs.Facts.{Ruled, ruled-passes, seats, end-small}
 use Rattle.promises.specs.Fronts.{Front, front-part, front-lay, front-set}
 
 -- two replies that no caller tells apart

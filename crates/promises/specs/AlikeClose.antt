@@ -28,9 +28,9 @@ use Rattle.recorder.specs.World.{World, accept, setClosed, setSlots, setEntries
 use Rattle.promises.specs.Agree.{last, next}
 use Rattle.promises.specs.Alike.{withSlices, Lent, Alike, same-entries, same-row, same-retired, same-retiredAt, same-slot}
 use Rattle.promises.specs.AlikeCalls.{Both, both-tested}
-use Rattle.promises.specs.Facts.{Ruled}
+use Rattle.recorder.specs.Facts.{Ruled}
 use Rattle.promises.specs.Fronts.{Front, front-lay}
-use Rattle.promises.specs.Stored.{length-toSide, length-toBase}
+use Rattle.recorder.specs.Stored.{length-toSide, length-toBase}
 
 -- the same of every element
 map-same : {A B : Type 0} (f g : A → B) (l : List A) → Every (λ x. f x ≡ g x) l → map f l ≡ map g l

@@ -18,7 +18,7 @@ use Rattle.ledger.specs.View.{indexed}
 use Rattle.ledger.specs.declared.Entry.{Entry}
 use Rattle.recorder.specs.World.{World, entriesOf, kindOf, baseBytes, imageBytes, slotFor}
 use Rattle.promises.specs.Alike.{withSlices, Lent, Alike, alike-by, same-entries, same-kind, same-base, same-image, same-slot, in-file, ruled-slices}
-use Rattle.promises.specs.Facts.{Ruled, EntryFacts, seats, within}
+use Rattle.recorder.specs.Facts.{Ruled, EntryFacts, seats, within}
 use Rattle.promises.specs.Fronts.{front-part}
 use Rattle.promises.specs.Good.{viewBy, view, hasBy, contents, Good}
 

@@ -6,7 +6,7 @@ use Rattle.recorder.specs.World.{World}
 use Rattle.promises.specs.Alike.{Alike}
 use Rattle.promises.specs.AlikeRuns.{alike-reached}
 use Rattle.promises.specs.Demand.{SameUpToClose}
-use Rattle.promises.specs.Facts.{Ruled}
+use Rattle.recorder.specs.Facts.{Ruled}
 
 module _ (keeps : (c : Call) (u : World) → Ruled u → Ruled (reply c u .world)) (a b : Recording) (same : SameUpToClose a b) where
   -- a, lent what b was lent

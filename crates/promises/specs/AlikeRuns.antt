@@ -21,7 +21,7 @@ use Rattle.recorder.specs.World.{World}
 use Rattle.promises.specs.Alike.{withSlices, Lent, Alike, alike-by}
 use Rattle.promises.specs.AlikeCalls.{Both, both-read, both-write, both-grow}
 use Rattle.promises.specs.AlikeClose.{both-close}
-use Rattle.promises.specs.Facts.{Ruled}
+use Rattle.recorder.specs.Facts.{Ruled}
 use Rattle.promises.specs.Fronts.{Front, front-lay}
 use Rattle.promises.specs.Opened.{Opens, open-is, open-vacant, ruled-open}
 

@@ -23,9 +23,9 @@ use Rattle.recorder.specs.Close.{closed, closeTests, closeReply}
 use Rattle.recorder.specs.Runs.{Call, read, write, grow, close, reply}
 use Rattle.desk.specs.Take.{Taken, takeReply}
 use Rattle.promises.specs.CloseWay.{Closes, close-accepted}
-use Rattle.promises.specs.Closed.{side-length-closed}
+use Rattle.recorder.specs.Closed.{side-length-closed}
 use Rattle.promises.specs.ClosedRules.{front-closed, encodes-closed}
-use Rattle.promises.specs.Facts.{Ruled, passes-ruled, rule-back, kind-back}
+use Rattle.recorder.specs.Facts.{Ruled, passes-ruled, rule-back, kind-back}
 use Rattle.promises.specs.Opened.{good-open}
 use Rattle.promises.specs.Reached.{ruled-reply}
 use Rattle.promises.specs.Taken.{take-accepts, taken-index, takes, took-take, held-index}

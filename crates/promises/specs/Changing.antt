@@ -16,9 +16,9 @@ use Rattle.recorder.specs.World.{World, Reply, slotCount, kindOf, slotFor}
 use Rattle.recorder.specs.Calls.{hitWorld, missWorld, rawBypass, written, readReply, writeReply, growReply}
 use Rattle.recorder.specs.Close.{changedIn}
 use Rattle.recorder.specs.declared.Counts.{Counts}
-use Rattle.promises.specs.Closed.{changed-held}
+use Rattle.recorder.specs.Closed.{changed-held}
 use Rattle.promises.specs.Contents.{slot-of, slot-filled}
-use Rattle.promises.specs.Facts.{Ruled, end-small, seats}
+use Rattle.recorder.specs.Facts.{Ruled, end-small, seats}
 use Rattle.promises.specs.Frames.{next}
 use Rattle.promises.specs.Good.{Good}
 use Rattle.promises.specs.Puts.{Put, clean-slot}

@@ -21,11 +21,11 @@ use Rattle.ledger.specs.Ordered.{every-put, self-at, one-place}
 use Rattle.ledger.specs.declared.Entry.{Entry}
 use Rattle.recorder.specs.Close.{changes, freePlaces, given, freshEntries, staying, after, dueEntries, closed, suffices}
 use Rattle.recorder.specs.World.{World, pageSize, waitOf, entriesOf, baseBytes, imageBytes, slotFor, bytesIn}
-use Rattle.promises.specs.Closed.{slot-closed, slotBytes-closed, closingOf, fresh-new, after-later, due-of, changed-held, length-held}
+use Rattle.recorder.specs.Closed.{slot-closed, slotBytes-closed, closingOf, fresh-new, after-later, due-of, changed-held, length-held}
 use Rattle.promises.specs.ClosedRules.{front-before}
-use Rattle.promises.specs.Facts.{EntryFacts, Ruled}
+use Rattle.recorder.specs.Facts.{EntryFacts, Ruled}
 use Rattle.promises.specs.Good.{hasBy, contents}
-use Rattle.promises.specs.Stored.{imageStart, pageStart, heldBytes, imaged, frontAfter, side-stored, base-stored}
+use Rattle.recorder.specs.Stored.{imageStart, pageStart, heldBytes, imaged, frontAfter, side-stored, base-stored}
 
 module _ (w : World) (r : Ruled w) (sf : suffices w ≡ true) (lt : w .state .closed .0 < top) where
   -- Images.

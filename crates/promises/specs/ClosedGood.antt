@@ -21,10 +21,10 @@ use Rattle.ledger.specs.Ordered.{any-put, find-some}
 use Rattle.ledger.specs.declared.Entry.{Entry}
 use Rattle.recorder.specs.Close.{openTick, changedIn, changes, freePlaces, freshEntries, staying, after, closed, suffices}
 use Rattle.recorder.specs.World.{World, slotCount, waitOf, entriesOf, slotBytes, baseBytes, imageBytes, slotFor, bytesIn}
-use Rattle.promises.specs.Closed.{page-closed, vacant-closed, slotBytes-closed, closingOf, fresh-new, after-later, enough, bytes-held, entries-closed}
+use Rattle.recorder.specs.Closed.{page-closed, vacant-closed, slotBytes-closed, closingOf, fresh-new, after-later, enough, bytes-held, entries-closed}
 use Rattle.promises.specs.ClosedFiles.{NewIn, StayIn, images-after, base-none, Based, base-after}
 use Rattle.promises.specs.ClosedRules.{early-closed, front-closed, ruled-closed}
-use Rattle.promises.specs.Facts.{EntryFacts, end-small, seats}
+use Rattle.recorder.specs.Facts.{EntryFacts, end-small, seats}
 use Rattle.promises.specs.Good.{Good, view, viewBy}
 
 -- what a desk reads of a page that has an entry, and of one that has none

@@ -17,7 +17,7 @@ use Rattle.ledger.specs.Guarded.{not-given, guarded-later}
 use Rattle.ledger.specs.declared.Entry.{Entry}
 use Rattle.recorder.specs.Close.{openTick, changes, freePlaces, given, freshEntries, staying, after, ledgerAfter, closed, suffices}
 use Rattle.recorder.specs.World.{World, waitOf, entriesOf, kindOf, baseBytes, imageBytes}
-use Rattle.promises.specs.Closed.{base-length-closed, side-length-closed, closingOf, fresh-new, after-later, due-of, enough, entries-closed}
+use Rattle.recorder.specs.Closed.{base-length-closed, side-length-closed, closingOf, fresh-new, after-later, due-of, enough, entries-closed}
 use Rattle.promises.specs.ClosedFiles.{image-other, base-other}
 use Rattle.promises.specs.Good.{Good, Kept, Guarded}
 

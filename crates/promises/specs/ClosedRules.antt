@@ -29,11 +29,11 @@ use Rattle.ledger.specs.View.{indexed, retired, retiredAt}
 use Rattle.ledger.specs.declared.Entry.{Entry}
 use Rattle.recorder.specs.Close.{openTick, changedIn, changes, freePlaces, given, freshEntries, staying, after, ledgerAfter, closed, suffices}
 use Rattle.recorder.specs.World.{World, waitOf, entriesOf, kindOf}
-use Rattle.promises.specs.Closed.{base-length-closed, side-length-closed, ledger-length-closed, page-closed, vacant-closed, slot-closed, closingOf, after-later, enough, changed-held, held-kind, sits-closed, small-closed, entries-closed}
+use Rattle.recorder.specs.Closed.{base-length-closed, side-length-closed, ledger-length-closed, page-closed, vacant-closed, slot-closed, closingOf, after-later, enough, changed-held, held-kind, sits-closed, small-closed, entries-closed}
 use Rattle.promises.specs.Encoded.{encodes-ruled}
-use Rattle.promises.specs.Facts.{EntryFacts, RuleFacts, Ruled, within, end-small}
+use Rattle.recorder.specs.Facts.{EntryFacts, RuleFacts, Ruled, within, end-small}
 use Rattle.promises.specs.Good.{frontAt}
-use Rattle.promises.specs.Stored.{imageStart, heldBytes, imaged, frontAfter, side-stored}
+use Rattle.recorder.specs.Stored.{imageStart, heldBytes, imaged, frontAfter, side-stored}
 
 module _ (w : World) (r : Ruled w) (sf : suffices w ≡ true) (lt : w .state .closed .0 < top) where
   -- The entries, one by one.

@@ -17,11 +17,12 @@ use Rattle.sidefile.specs.Judge.{ascending, apart, markTests, headerTests, inde
 use Rattle.slots.specs.Rules.{slotRules}
 use Rattle.slots.specs.Table.{pageAt, vacant, changedAt, slotOf, lowestEmpty, changedPage, uses, without, times, victimIn, victim, touched, loaded, evicted, marked, unmarked, seatIn, seated, noSlots, zeroSlots}
 use Rattle.ledger.specs.Entries.{has, at, find, isOwed, owedPage, isLeaving, retires, isDue, isReusable, placeAfter, insert, putAll, fresh}
+use Rattle.ledger.specs.Rules.{entryRules, ledgerRules}
 use Rattle.ledger.specs.View.{entryRowOf, entryOf, entriesIn, entryBytes, placeRowAt, retired, retiredAt, retiredRow}
 use Rattle.recorder.specs.Calls.{openState, openTests, opened, openReply, unclean, foundIn, found, hitWorld, missWorld, metaBypass, rawBypass, readFound, readReply, written, writeFound, writeReply, growTests, grown, growSeated, growReply}
 use Rattle.recorder.specs.Calls as Calls
 use Rattle.recorder.specs.Close.{changedIn, changes, freePlaces, given, freshEntries, staying, after, dueEntries, imageStores, baseStores, frontStores, stores, toSide, toBase, ledgerAfter, closed, suffices, closeTests, closeReply}
-use Rattle.recorder.specs.Rules.{entryRule, rules, longEnough, kindRules, standing}
+use Rattle.recorder.specs.Rules.{rules, longEnough, kindRules, standing}
 use Rattle.recorder.specs.Runs.{reply, run}
 use Rattle.recorder.specs.World.{entriesOf, slotBytes, baseBytes, slotFor, bytesIn, zeroState}
 use Rattle.desk.specs.Read.{readTests, heldEntry, located, deskRead}
@@ -32,7 +33,7 @@ use Rattle.promises.specs.Longer as Longer
 use Rattle.promises.specs.Rows as Rows
 
 unsummed : Rows.Holds Rows.rowA × Rows.Holds Rows.rowB × Rows.Holds Rows.rowE × Rows.Holds Rows.rowsFG × Rows.Holds Rows.rowJ
-unfolding from zip keep anyOf allOf first le bytes part lay rows join owed due leaves reusable limits wait entries places indexEnd firstImage imageAt sideLength baseLength bufferLength placesAt ledgerLength passes tested checksum imageSum headerFront headerBytes indexRowOf indexRows indexBytes headerFor headerOf indexEntryOf indexOf ascending apart markTests headerTests indexTests wholeTests frontTests heldTests slotRules pageAt vacant changedAt slotOf lowestEmpty changedPage uses without times victimIn victim touched loaded evicted marked unmarked seatIn seated noSlots zeroSlots has at find isOwed owedPage isLeaving retires isDue isReusable placeAfter insert putAll fresh entryRowOf entryOf entriesIn entryBytes placeRowAt retired retiredAt retiredRow openState openTests opened openReply unclean foundIn found hitWorld missWorld metaBypass rawBypass readFound readReply written writeFound writeReply growTests grown growSeated growReply Calls.spanTests changedIn changes freePlaces given freshEntries staying after dueEntries imageStores baseStores frontStores stores toSide toBase ledgerAfter closed suffices closeTests closeReply entryRule rules longEnough kindRules standing reply run entriesOf slotBytes baseBytes slotFor bytesIn zeroState readTests heldEntry located deskRead Read.spanTests taken takeTests takeReply sameSettings withinLag markOf marksAfter refreshTests refreshReply InBytes.row Rows.zeros Rows.settings Rows.lent Rows.start Rows.after Rows.closes Rows.writes Rows.example Rows.variant Rows.fourReads Rows.listed Rows.index Rows.inBase Rows.number Rows.counted Rows.slotNumber Rows.held Rows.answer Rows.reads Rows.rowA Rows.rowB Rows.rowE Rows.rowsFG Rows.rowJ
+unfolding from zip keep anyOf allOf first le bytes part lay rows join owed due leaves reusable limits wait entries places indexEnd firstImage imageAt sideLength baseLength bufferLength placesAt ledgerLength passes tested checksum imageSum headerFront headerBytes indexRowOf indexRows indexBytes headerFor headerOf indexEntryOf indexOf ascending apart markTests headerTests indexTests wholeTests frontTests heldTests slotRules pageAt vacant changedAt slotOf lowestEmpty changedPage uses without times victimIn victim touched loaded evicted marked unmarked seatIn seated noSlots zeroSlots has at find isOwed owedPage isLeaving retires isDue isReusable placeAfter insert putAll fresh entryRowOf entryOf entriesIn entryBytes placeRowAt retired retiredAt retiredRow openState openTests opened openReply unclean foundIn found hitWorld missWorld metaBypass rawBypass readFound readReply written writeFound writeReply growTests grown growSeated growReply Calls.spanTests changedIn changes freePlaces given freshEntries staying after dueEntries imageStores baseStores frontStores stores toSide toBase ledgerAfter closed suffices closeTests closeReply entryRules ledgerRules rules longEnough kindRules standing reply run entriesOf slotBytes baseBytes slotFor bytesIn zeroState readTests heldEntry located deskRead Read.spanTests taken takeTests takeReply sameSettings withinLag markOf marksAfter refreshTests refreshReply InBytes.row Rows.zeros Rows.settings Rows.lent Rows.start Rows.after Rows.closes Rows.writes Rows.example Rows.variant Rows.fourReads Rows.listed Rows.index Rows.inBase Rows.number Rows.counted Rows.slotNumber Rows.held Rows.answer Rows.reads Rows.rowA Rows.rowB Rows.rowE Rows.rowsFG Rows.rowJ
 unsummed = (
   more refl (more refl (more refl (more refl (more refl (more refl (more refl (done))))))),
   more refl (more refl (more refl (more refl (more refl (more refl (more refl (done))))))),
@@ -42,7 +43,7 @@ unsummed = (
 )
 
 summed : Rows.Holds Rows.rowC × Rows.Holds Rows.rowD × Rows.Holds Rows.rowH × Rows.Holds Rows.rowI
-unfolding from zip keep anyOf allOf first le bytes part lay rows join owed due leaves reusable limits wait entries places indexEnd firstImage imageAt sideLength baseLength bufferLength placesAt ledgerLength passes tested checksum imageSum headerFront headerBytes indexRowOf indexRows indexBytes headerFor headerOf indexEntryOf indexOf ascending apart markTests headerTests indexTests wholeTests frontTests heldTests slotRules pageAt vacant changedAt slotOf lowestEmpty changedPage uses without times victimIn victim touched loaded evicted marked unmarked seatIn seated noSlots zeroSlots has at find isOwed owedPage isLeaving retires isDue isReusable placeAfter insert putAll fresh entryRowOf entryOf entriesIn entryBytes placeRowAt retired retiredAt retiredRow openState openTests opened openReply unclean foundIn found hitWorld missWorld metaBypass rawBypass readFound readReply written writeFound writeReply growTests grown growSeated growReply Calls.spanTests changedIn changes freePlaces given freshEntries staying after dueEntries imageStores baseStores frontStores stores toSide toBase ledgerAfter closed suffices closeTests closeReply entryRule rules longEnough kindRules standing reply run entriesOf slotBytes baseBytes slotFor bytesIn zeroState readTests heldEntry located deskRead Read.spanTests taken takeTests takeReply sameSettings withinLag markOf marksAfter refreshTests refreshReply subXor xorSub half mix final addBlock begin blocks hashlittle InBytes.row Rows.zeros Rows.settings Rows.lent Rows.start Rows.after Rows.closes Rows.writes Rows.example Rows.variant Rows.fourReads Rows.listed Rows.index Rows.inBase Rows.number Rows.counted Rows.slotNumber Rows.held Rows.answer Rows.reads Rows.rowC Rows.rowD Rows.rowH Rows.rowI
+unfolding from zip keep anyOf allOf first le bytes part lay rows join owed due leaves reusable limits wait entries places indexEnd firstImage imageAt sideLength baseLength bufferLength placesAt ledgerLength passes tested checksum imageSum headerFront headerBytes indexRowOf indexRows indexBytes headerFor headerOf indexEntryOf indexOf ascending apart markTests headerTests indexTests wholeTests frontTests heldTests slotRules pageAt vacant changedAt slotOf lowestEmpty changedPage uses without times victimIn victim touched loaded evicted marked unmarked seatIn seated noSlots zeroSlots has at find isOwed owedPage isLeaving retires isDue isReusable placeAfter insert putAll fresh entryRowOf entryOf entriesIn entryBytes placeRowAt retired retiredAt retiredRow openState openTests opened openReply unclean foundIn found hitWorld missWorld metaBypass rawBypass readFound readReply written writeFound writeReply growTests grown growSeated growReply Calls.spanTests changedIn changes freePlaces given freshEntries staying after dueEntries imageStores baseStores frontStores stores toSide toBase ledgerAfter closed suffices closeTests closeReply entryRules ledgerRules rules longEnough kindRules standing reply run entriesOf slotBytes baseBytes slotFor bytesIn zeroState readTests heldEntry located deskRead Read.spanTests taken takeTests takeReply sameSettings withinLag markOf marksAfter refreshTests refreshReply subXor xorSub half mix final addBlock begin blocks hashlittle InBytes.row Rows.zeros Rows.settings Rows.lent Rows.start Rows.after Rows.closes Rows.writes Rows.example Rows.variant Rows.fourReads Rows.listed Rows.index Rows.inBase Rows.number Rows.counted Rows.slotNumber Rows.held Rows.answer Rows.reads Rows.rowC Rows.rowD Rows.rowH Rows.rowI
 summed = (
   more refl (more refl (done)),
   more refl (done),
@@ -56,22 +57,22 @@ rows-hold =
     more (unsummed .0) (more (unsummed .1) (more (summed .0) (more (summed .1) (more (unsummed .2) (more (unsummed .3) (more (summed .2) (more (summed .3) (more (unsummed .4) done))))))))
 
 pub clause-holds : Clause.ClauseHolds
-unfolding from zip keep anyOf allOf first le bytes part lay rows join owed due leaves reusable limits wait entries places indexEnd firstImage imageAt sideLength baseLength bufferLength placesAt ledgerLength passes tested checksum imageSum headerFront headerBytes indexRowOf indexRows indexBytes headerFor headerOf indexEntryOf indexOf ascending apart markTests headerTests indexTests wholeTests frontTests heldTests slotRules pageAt vacant changedAt slotOf lowestEmpty changedPage uses without times victimIn victim touched loaded evicted marked unmarked seatIn seated noSlots zeroSlots has at find isOwed owedPage isLeaving retires isDue isReusable placeAfter insert putAll fresh entryRowOf entryOf entriesIn entryBytes placeRowAt retired retiredAt retiredRow openState openTests opened openReply unclean foundIn found hitWorld missWorld metaBypass rawBypass readFound readReply written writeFound writeReply growTests grown growSeated growReply Calls.spanTests changedIn changes freePlaces given freshEntries staying after dueEntries imageStores baseStores frontStores stores toSide toBase ledgerAfter closed suffices closeTests closeReply entryRule rules longEnough kindRules standing reply run entriesOf slotBytes baseBytes slotFor bytesIn zeroState readTests heldEntry located deskRead Read.spanTests taken takeTests takeReply sameSettings withinLag markOf marksAfter refreshTests refreshReply subXor xorSub half mix final addBlock begin blocks hashlittle InBytes.row Rows.zeros Rows.settings Rows.lent Rows.start Rows.after Rows.closes Rows.writes Rows.example Rows.variant Rows.fourReads Rows.listed Rows.index Rows.inBase Rows.number Rows.counted Rows.slotNumber Rows.held Rows.answer Rows.reads Clause.before Clause.later Clause.refreshed Clause.shown Clause.clause
+unfolding from zip keep anyOf allOf first le bytes part lay rows join owed due leaves reusable limits wait entries places indexEnd firstImage imageAt sideLength baseLength bufferLength placesAt ledgerLength passes tested checksum imageSum headerFront headerBytes indexRowOf indexRows indexBytes headerFor headerOf indexEntryOf indexOf ascending apart markTests headerTests indexTests wholeTests frontTests heldTests slotRules pageAt vacant changedAt slotOf lowestEmpty changedPage uses without times victimIn victim touched loaded evicted marked unmarked seatIn seated noSlots zeroSlots has at find isOwed owedPage isLeaving retires isDue isReusable placeAfter insert putAll fresh entryRowOf entryOf entriesIn entryBytes placeRowAt retired retiredAt retiredRow openState openTests opened openReply unclean foundIn found hitWorld missWorld metaBypass rawBypass readFound readReply written writeFound writeReply growTests grown growSeated growReply Calls.spanTests changedIn changes freePlaces given freshEntries staying after dueEntries imageStores baseStores frontStores stores toSide toBase ledgerAfter closed suffices closeTests closeReply entryRules ledgerRules rules longEnough kindRules standing reply run entriesOf slotBytes baseBytes slotFor bytesIn zeroState readTests heldEntry located deskRead Read.spanTests taken takeTests takeReply sameSettings withinLag markOf marksAfter refreshTests refreshReply subXor xorSub half mix final addBlock begin blocks hashlittle InBytes.row Rows.zeros Rows.settings Rows.lent Rows.start Rows.after Rows.closes Rows.writes Rows.example Rows.variant Rows.fourReads Rows.listed Rows.index Rows.inBase Rows.number Rows.counted Rows.slotNumber Rows.held Rows.answer Rows.reads Clause.before Clause.later Clause.refreshed Clause.shown Clause.clause
 clause-holds =
     more refl (more refl (more refl (more refl (done))))
 
 course-holds : Rows.Holds Longer.course
-unfolding from zip keep anyOf allOf first le bytes part lay rows join owed due leaves reusable limits wait entries places indexEnd firstImage imageAt sideLength baseLength bufferLength placesAt ledgerLength passes tested checksum imageSum headerFront headerBytes indexRowOf indexRows indexBytes headerFor headerOf indexEntryOf indexOf ascending apart markTests headerTests indexTests wholeTests frontTests heldTests slotRules pageAt vacant changedAt slotOf lowestEmpty changedPage uses without times victimIn victim touched loaded evicted marked unmarked seatIn seated noSlots zeroSlots has at find isOwed owedPage isLeaving retires isDue isReusable placeAfter insert putAll fresh entryRowOf entryOf entriesIn entryBytes placeRowAt retired retiredAt retiredRow openState openTests opened openReply unclean foundIn found hitWorld missWorld metaBypass rawBypass readFound readReply written writeFound writeReply growTests grown growSeated growReply Calls.spanTests changedIn changes freePlaces given freshEntries staying after dueEntries imageStores baseStores frontStores stores toSide toBase ledgerAfter closed suffices closeTests closeReply entryRule rules longEnough kindRules standing reply run entriesOf slotBytes baseBytes slotFor bytesIn zeroState readTests heldEntry located deskRead Read.spanTests taken takeTests takeReply sameSettings withinLag markOf marksAfter refreshTests refreshReply InBytes.row Rows.zeros Rows.settings Rows.lent Rows.start Rows.after Rows.closes Rows.writes Rows.example Rows.variant Rows.fourReads Rows.listed Rows.index Rows.inBase Rows.number Rows.counted Rows.slotNumber Rows.held Rows.answer Rows.reads Longer.toFour Longer.toSeven Longer.toEight Longer.still Longer.busy Longer.shows Longer.asked Longer.course
+unfolding from zip keep anyOf allOf first le bytes part lay rows join owed due leaves reusable limits wait entries places indexEnd firstImage imageAt sideLength baseLength bufferLength placesAt ledgerLength passes tested checksum imageSum headerFront headerBytes indexRowOf indexRows indexBytes headerFor headerOf indexEntryOf indexOf ascending apart markTests headerTests indexTests wholeTests frontTests heldTests slotRules pageAt vacant changedAt slotOf lowestEmpty changedPage uses without times victimIn victim touched loaded evicted marked unmarked seatIn seated noSlots zeroSlots has at find isOwed owedPage isLeaving retires isDue isReusable placeAfter insert putAll fresh entryRowOf entryOf entriesIn entryBytes placeRowAt retired retiredAt retiredRow openState openTests opened openReply unclean foundIn found hitWorld missWorld metaBypass rawBypass readFound readReply written writeFound writeReply growTests grown growSeated growReply Calls.spanTests changedIn changes freePlaces given freshEntries staying after dueEntries imageStores baseStores frontStores stores toSide toBase ledgerAfter closed suffices closeTests closeReply entryRules ledgerRules rules longEnough kindRules standing reply run entriesOf slotBytes baseBytes slotFor bytesIn zeroState readTests heldEntry located deskRead Read.spanTests taken takeTests takeReply sameSettings withinLag markOf marksAfter refreshTests refreshReply InBytes.row Rows.zeros Rows.settings Rows.lent Rows.start Rows.after Rows.closes Rows.writes Rows.example Rows.variant Rows.fourReads Rows.listed Rows.index Rows.inBase Rows.number Rows.counted Rows.slotNumber Rows.held Rows.answer Rows.reads Longer.toFour Longer.toSeven Longer.toEight Longer.still Longer.busy Longer.shows Longer.asked Longer.course
 course-holds =
     more refl (more refl (more refl (more refl (more refl (done)))))
 
 futures-hold : Rows.Holds Longer.futures
-unfolding from zip keep anyOf allOf first le bytes part lay rows join owed due leaves reusable limits wait entries places indexEnd firstImage imageAt sideLength baseLength bufferLength placesAt ledgerLength passes tested checksum imageSum headerFront headerBytes indexRowOf indexRows indexBytes headerFor headerOf indexEntryOf indexOf ascending apart markTests headerTests indexTests wholeTests frontTests heldTests slotRules pageAt vacant changedAt slotOf lowestEmpty changedPage uses without times victimIn victim touched loaded evicted marked unmarked seatIn seated noSlots zeroSlots has at find isOwed owedPage isLeaving retires isDue isReusable placeAfter insert putAll fresh entryRowOf entryOf entriesIn entryBytes placeRowAt retired retiredAt retiredRow openState openTests opened openReply unclean foundIn found hitWorld missWorld metaBypass rawBypass readFound readReply written writeFound writeReply growTests grown growSeated growReply Calls.spanTests changedIn changes freePlaces given freshEntries staying after dueEntries imageStores baseStores frontStores stores toSide toBase ledgerAfter closed suffices closeTests closeReply entryRule rules longEnough kindRules standing reply run entriesOf slotBytes baseBytes slotFor bytesIn zeroState readTests heldEntry located deskRead Read.spanTests taken takeTests takeReply sameSettings withinLag markOf marksAfter refreshTests refreshReply InBytes.row Rows.zeros Rows.settings Rows.lent Rows.start Rows.after Rows.closes Rows.writes Rows.example Rows.variant Rows.fourReads Rows.listed Rows.index Rows.inBase Rows.number Rows.counted Rows.slotNumber Rows.held Rows.answer Rows.reads Longer.toFour Longer.toSeven Longer.toEight Longer.still Longer.busy Longer.shows Longer.asked Longer.futures
+unfolding from zip keep anyOf allOf first le bytes part lay rows join owed due leaves reusable limits wait entries places indexEnd firstImage imageAt sideLength baseLength bufferLength placesAt ledgerLength passes tested checksum imageSum headerFront headerBytes indexRowOf indexRows indexBytes headerFor headerOf indexEntryOf indexOf ascending apart markTests headerTests indexTests wholeTests frontTests heldTests slotRules pageAt vacant changedAt slotOf lowestEmpty changedPage uses without times victimIn victim touched loaded evicted marked unmarked seatIn seated noSlots zeroSlots has at find isOwed owedPage isLeaving retires isDue isReusable placeAfter insert putAll fresh entryRowOf entryOf entriesIn entryBytes placeRowAt retired retiredAt retiredRow openState openTests opened openReply unclean foundIn found hitWorld missWorld metaBypass rawBypass readFound readReply written writeFound writeReply growTests grown growSeated growReply Calls.spanTests changedIn changes freePlaces given freshEntries staying after dueEntries imageStores baseStores frontStores stores toSide toBase ledgerAfter closed suffices closeTests closeReply entryRules ledgerRules rules longEnough kindRules standing reply run entriesOf slotBytes baseBytes slotFor bytesIn zeroState readTests heldEntry located deskRead Read.spanTests taken takeTests takeReply sameSettings withinLag markOf marksAfter refreshTests refreshReply InBytes.row Rows.zeros Rows.settings Rows.lent Rows.start Rows.after Rows.closes Rows.writes Rows.example Rows.variant Rows.fourReads Rows.listed Rows.index Rows.inBase Rows.number Rows.counted Rows.slotNumber Rows.held Rows.answer Rows.reads Longer.toFour Longer.toSeven Longer.toEight Longer.still Longer.busy Longer.shows Longer.asked Longer.futures
 futures-hold =
     more refl (more refl (done))
 
 desks-hold : Rows.Holds Longer.desks
-unfolding from zip keep anyOf allOf first le bytes part lay rows join owed due leaves reusable limits wait entries places indexEnd firstImage imageAt sideLength baseLength bufferLength placesAt ledgerLength passes tested checksum imageSum headerFront headerBytes indexRowOf indexRows indexBytes headerFor headerOf indexEntryOf indexOf ascending apart markTests headerTests indexTests wholeTests frontTests heldTests slotRules pageAt vacant changedAt slotOf lowestEmpty changedPage uses without times victimIn victim touched loaded evicted marked unmarked seatIn seated noSlots zeroSlots has at find isOwed owedPage isLeaving retires isDue isReusable placeAfter insert putAll fresh entryRowOf entryOf entriesIn entryBytes placeRowAt retired retiredAt retiredRow openState openTests opened openReply unclean foundIn found hitWorld missWorld metaBypass rawBypass readFound readReply written writeFound writeReply growTests grown growSeated growReply Calls.spanTests changedIn changes freePlaces given freshEntries staying after dueEntries imageStores baseStores frontStores stores toSide toBase ledgerAfter closed suffices closeTests closeReply entryRule rules longEnough kindRules standing reply run entriesOf slotBytes baseBytes slotFor bytesIn zeroState readTests heldEntry located deskRead Read.spanTests taken takeTests takeReply sameSettings withinLag markOf marksAfter refreshTests refreshReply subXor xorSub half mix final addBlock begin blocks hashlittle InBytes.row Rows.zeros Rows.settings Rows.lent Rows.start Rows.after Rows.closes Rows.writes Rows.example Rows.variant Rows.fourReads Rows.listed Rows.index Rows.inBase Rows.number Rows.counted Rows.slotNumber Rows.held Rows.answer Rows.reads Longer.toFour Longer.toSeven Longer.toEight Longer.still Longer.busy Longer.shows Longer.asked Longer.desks
+unfolding from zip keep anyOf allOf first le bytes part lay rows join owed due leaves reusable limits wait entries places indexEnd firstImage imageAt sideLength baseLength bufferLength placesAt ledgerLength passes tested checksum imageSum headerFront headerBytes indexRowOf indexRows indexBytes headerFor headerOf indexEntryOf indexOf ascending apart markTests headerTests indexTests wholeTests frontTests heldTests slotRules pageAt vacant changedAt slotOf lowestEmpty changedPage uses without times victimIn victim touched loaded evicted marked unmarked seatIn seated noSlots zeroSlots has at find isOwed owedPage isLeaving retires isDue isReusable placeAfter insert putAll fresh entryRowOf entryOf entriesIn entryBytes placeRowAt retired retiredAt retiredRow openState openTests opened openReply unclean foundIn found hitWorld missWorld metaBypass rawBypass readFound readReply written writeFound writeReply growTests grown growSeated growReply Calls.spanTests changedIn changes freePlaces given freshEntries staying after dueEntries imageStores baseStores frontStores stores toSide toBase ledgerAfter closed suffices closeTests closeReply entryRules ledgerRules rules longEnough kindRules standing reply run entriesOf slotBytes baseBytes slotFor bytesIn zeroState readTests heldEntry located deskRead Read.spanTests taken takeTests takeReply sameSettings withinLag markOf marksAfter refreshTests refreshReply subXor xorSub half mix final addBlock begin blocks hashlittle InBytes.row Rows.zeros Rows.settings Rows.lent Rows.start Rows.after Rows.closes Rows.writes Rows.example Rows.variant Rows.fourReads Rows.listed Rows.index Rows.inBase Rows.number Rows.counted Rows.slotNumber Rows.held Rows.answer Rows.reads Longer.toFour Longer.toSeven Longer.toEight Longer.still Longer.busy Longer.shows Longer.asked Longer.desks
 desks-hold =
     more refl (more refl (more refl (more refl (more refl (more refl (done))))))
 

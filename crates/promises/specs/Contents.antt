@@ -19,7 +19,7 @@ use Rattle.ledger.specs.Entries.{pageOf, has, find, isOwed, owedPage}
 use Rattle.ledger.specs.Ordered.{find-some}
 use Rattle.ledger.specs.declared.Entry.{Entry}
 use Rattle.recorder.specs.World.{World, pageSize, slotCount, waitOf, entriesOf, slotBytes, baseBytes, slotFor}
-use Rattle.promises.specs.Facts.{Ruled, end-small, seats}
+use Rattle.recorder.specs.Facts.{Ruled, end-small, seats}
 use Rattle.promises.specs.Good.{viewBy, view, hasBy, contents, Good}
 
 -- page p is owed in this world

@@ -12,7 +12,7 @@ use Rattle.ledger.specs.Entries.{pageOf}
 use Rattle.ledger.specs.Rowed.{length-entriesIn}
 use Rattle.ledger.specs.View.{indexed}
 use Rattle.recorder.specs.World.{World, entriesOf}
-use Rattle.promises.specs.Facts.{Ruled, end-small}
+use Rattle.recorder.specs.Facts.{Ruled, end-small}
 use Rattle.promises.specs.Good.{Good}
 
 -- as many entries as the state counts

@@ -13,7 +13,7 @@ use Rattle.slots.specs.declared.Slots.{Slots}
 use Rattle.recorder.specs.World.{World, setEnd, setSlots, setMeta, setRaw, setState, setBase, setBuffer, setKinds, pageSize, kindOf, baseBytes}
 use Rattle.recorder.specs.Calls.{spanIn, laidIn, zeroPage}
 use Rattle.recorder.specs.declared.Counts.{Counts}
-use Rattle.promises.specs.Facts.{Ruled}
+use Rattle.recorder.specs.Facts.{Ruled}
 use Rattle.promises.specs.Good.{Quiet}
 use Rattle.promises.specs.Ways.{Span}
 

@@ -16,7 +16,7 @@ use Rattle.ledger.specs.Entries.{pageOf, placeOf, has, at, find, isOwed}
 use Rattle.ledger.specs.View.{indexed, retired, retiredAt}
 use Rattle.ledger.specs.declared.Entry.{Entry}
 use Rattle.recorder.specs.World.{World, slotCount, waitOf, entriesOf, kindOf, slotBytes, baseBytes, imageBytes, slotFor}
-use Rattle.promises.specs.Facts.{Ruled}
+use Rattle.recorder.specs.Facts.{Ruled}
 
 -- the bytes that a desk with this world's index reads for a page: its entry's image, else the base
 abbrev pub viewBy : World → ℕ → Option Entry → List ℕ

@@ -8,7 +8,7 @@ use lib.ListN.{replicate}
 use Rattle.recorder.specs.World.{World, Reply, pageSize, kindOf}
 use Rattle.recorder.specs.Calls.{grown, growSeated, growReply}
 use Rattle.recorder.specs.Runs.{grow, reply}
-use Rattle.promises.specs.Facts.{Ruled}
+use Rattle.recorder.specs.Facts.{Ruled}
 use Rattle.promises.specs.Good.{contents, Good}
 use Rattle.promises.specs.Ways.{Grows, refused, raw, seat, grow-way}
 use Rattle.promises.specs.Frames.{kind-new}

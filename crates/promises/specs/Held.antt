@@ -24,7 +24,7 @@ use Rattle.recorder.specs.Runs.{Call, read, write, grow, close, reply, run, Rec
 use Rattle.promises.specs.Good.{Good, Quiet, contents}
 use Rattle.promises.specs.Frames.{span-here, span-other, page-here, page-other}
 use Rattle.promises.specs.CloseWay.{close-by}
-use Rattle.promises.specs.Closed.{settings-closed, end-closed, kinds-closed}
+use Rattle.recorder.specs.Closed.{settings-closed, end-closed, kinds-closed}
 use Rattle.promises.specs.ClosedFiles.{contents-closed}
 use Rattle.promises.specs.Contents.{contents-base}
 use Rattle.promises.specs.Opened.{Opens, open-is}

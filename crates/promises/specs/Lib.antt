@@ -11,7 +11,6 @@ pub mod AnyWorld
 pub mod Changing
 pub mod Clause
 pub mod CloseWay
-pub mod Closed
 pub mod ClosedFiles
 pub mod ClosedGood
 pub mod ClosedKept
@@ -21,7 +20,6 @@ pub mod Contents
 pub mod Demand
 pub mod Demanded
 pub mod Encoded
-pub mod Facts
 pub mod Frames
 pub mod Fronts
 pub mod Good
@@ -46,7 +44,6 @@ pub mod Since
 pub mod Snapshot
 pub mod Stepped
 pub mod Steps
-pub mod Stored
 pub mod Taken
 pub mod Unmarked
 pub mod Ways

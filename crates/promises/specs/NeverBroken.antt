@@ -19,7 +19,7 @@ use Rattle.recorder.specs.Rules.{standing}
 use Rattle.recorder.specs.Calls.{spanTests, unclean, Found, hit, miss, nowhere, found, readFound, readReply, writeFound, writeReply, growTests, growSeated, growReply}
 use Rattle.recorder.specs.Close.{closeTests, closeReply}
 use Rattle.recorder.specs.Runs.{Call, read, write, grow, close, reply, Recording, opening, reached}
-use Rattle.promises.specs.Facts.{Ruled, ruled-passes}
+use Rattle.recorder.specs.Facts.{Ruled, ruled-passes}
 use Rattle.promises.specs.Reached.{good-reached}
 
 -- a number other than 2 and 3

@@ -16,7 +16,7 @@ use Rattle.ledger.specs.Entries.{pageOf, find, isOwed}
 use Rattle.ledger.specs.declared.Entry.{Entry}
 use Rattle.recorder.specs.World.{World, pageSize, slotCount, waitOf, entriesOf, kindOf, slotBytes, baseBytes, imageBytes, slotFor}
 use Rattle.recorder.specs.declared.Counts.{Counts}
-use Rattle.promises.specs.Facts.{EntryFacts, Ruled}
+use Rattle.recorder.specs.Facts.{EntryFacts, Ruled}
 use Rattle.promises.specs.Good.{viewBy, view, Good}
 use Rattle.promises.specs.Frames.{Framed, next}
 

@@ -28,7 +28,7 @@ use Rattle.ledger.specs.declared.Entry.{Entry}
 use Rattle.recorder.specs.World.{World, Reply, refuse, accept, setState, zeroState, entriesOf, kindOf}
 use Rattle.recorder.specs.Rules.{longEnough}
 use Rattle.recorder.specs.Calls.{openState, openTests, opened, openReply}
-use Rattle.promises.specs.Facts.{RuleFacts, Lengths, long-facts, KindFacts, Ruled}
+use Rattle.recorder.specs.Facts.{RuleFacts, Lengths, long-facts, KindFacts, Ruled}
 use Rattle.promises.specs.Good.{frontAt, Good}
 
 -- kind bytes that are all 0 or 1; past the table's end a kind reads as 0

@@ -23,7 +23,7 @@ use Rattle.ledger.specs.declared.Entry.{Entry}
 use Rattle.recorder.specs.World.{World, pageSize, slotCount, waitOf, entriesOf, kindOf, slotBytes, baseBytes, slotFor}
 use Rattle.recorder.specs.Calls.{unclean}
 use Rattle.recorder.specs.declared.Counts.{Counts}
-use Rattle.promises.specs.Facts.{EntryFacts, Ruled, within, end-small, seats}
+use Rattle.recorder.specs.Facts.{EntryFacts, Ruled, within, end-small, seats}
 use Rattle.promises.specs.Good.{view, contents, Good}
 use Rattle.promises.specs.Frames.{Framed, next}
 use Rattle.promises.specs.Nexts.{Next, ruled-next, good-next, good-next-ending}

@@ -15,7 +15,7 @@ use Rattle.ledger.specs.View.{entriesIn, retired, retiredAt}
 use Rattle.ledger.specs.declared.Entry.{Entry}
 use Rattle.recorder.specs.World.{World, entriesOf, imageBytes}
 use Rattle.recorder.specs.Calls.{readReply, writeReply, growReply}
-use Rattle.promises.specs.Facts.{Ruled}
+use Rattle.recorder.specs.Facts.{Ruled}
 use Rattle.promises.specs.Good.{Guarded, Kept, Quiet}
 use Rattle.promises.specs.Steps.{quiet-step}
 use Rattle.promises.specs.Stepped.{step-read, step-write, step-grow}

@@ -11,11 +11,11 @@ use Rattle.recorder.specs.Close.{closed, closeReply}
 use Rattle.recorder.specs.declared.State.{State}
 use Rattle.recorder.specs.Runs.{Call, read, write, grow, close, reply, run, Recording, opening, reached}
 use Rattle.promises.specs.CloseWay.{close-by}
-use Rattle.promises.specs.Closed.{tick-closed, settings-closed}
+use Rattle.recorder.specs.Closed.{tick-closed, settings-closed}
 use Rattle.promises.specs.ClosedGood.{good-closed}
 use Rattle.promises.specs.ClosedKept.{kept-closed}
 use Rattle.promises.specs.ClosedRules.{ruled-closed}
-use Rattle.promises.specs.Facts.{Ruled}
+use Rattle.recorder.specs.Facts.{Ruled}
 use Rattle.promises.specs.Good.{Good, Kept}
 use Rattle.promises.specs.Growing.{good-grow, ruled-grow}
 use Rattle.promises.specs.Opened.{good-open, open-state}

@@ -11,7 +11,7 @@ use Rattle.octets.specs.Part.{part}
 use Rattle.octets.specs.Rows.{page}
 use Rattle.recorder.specs.World.{World, Reply, pageSize, kindOf, slotBytes, baseBytes}
 use Rattle.recorder.specs.Calls.{hitWorld, missWorld, metaBypass, rawBypass, readReply}
-use Rattle.promises.specs.Facts.{Ruled}
+use Rattle.recorder.specs.Facts.{Ruled}
 use Rattle.promises.specs.Good.{contents, Good}
 use Rattle.promises.specs.Ways.{Span, Reads, refused, hit, miss, bypass, raw, read-way}
 use Rattle.promises.specs.Frames.{span-read}

@@ -7,7 +7,7 @@ use Rattle.recorder.specs.Close.{closeReply}
 use Rattle.recorder.specs.Runs.{Call, close, reply, run, Recording, opening, reached}
 use Rattle.recorder.specs.declared.State.{State}
 use Rattle.promises.specs.CloseWay.{close-accepted}
-use Rattle.promises.specs.Closed.{still-closed, end-closed}
+use Rattle.recorder.specs.Closed.{still-closed, end-closed}
 use Rattle.promises.specs.ClosedGood.{good-closed, ending-closed}
 use Rattle.promises.specs.Demand.{AtClose, justOpened, justClosed}
 use Rattle.promises.specs.Good.{Good}

@@ -26,7 +26,7 @@ use Rattle.recorder.specs.Close.{openTick, changedIn, changes, freePlaces, clos
 use Rattle.recorder.specs.Runs.{Call, read, write, grow, close, reply, run}
 use Rattle.promises.specs.Changing.{stays-read, stays-write, stays-grow, changed-write, changed-newer}
 use Rattle.promises.specs.CloseWay.{close-by}
-use Rattle.promises.specs.Closed.{tick-closed, end-closed, kinds-closed, closingOf, after-later, enough, entries-closed}
+use Rattle.recorder.specs.Closed.{tick-closed, end-closed, kinds-closed, closingOf, after-later, enough, entries-closed}
 use Rattle.promises.specs.ClosedFiles.{contents-closed}
 use Rattle.promises.specs.Good.{contents, Good, Kept, Quiet}
 use Rattle.promises.specs.Growing.{good-grow, ending-grow, contents-grow-other}

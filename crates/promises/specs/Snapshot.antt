@@ -23,7 +23,7 @@ use Rattle.ledger.specs.Entries.{pageOf, placeOf, has, find, isOwed}
 use Rattle.ledger.specs.declared.Entry.{Entry}
 use Rattle.recorder.specs.World.{World, pageSize, entriesOf, kindOf, slotCount, waitOf, baseBytes, imageBytes, slotFor}
 use Rattle.desk.specs.Read.{Answer, refused}
-use Rattle.promises.specs.Facts.{EntryFacts, end-small}
+use Rattle.recorder.specs.Facts.{EntryFacts, end-small}
 use Rattle.promises.specs.Good.{view, viewBy, contents, hasBy, Good, Kept}
 use Rattle.promises.specs.Taken.{Took}
 use Rattle.promises.specs.Lagging.{deskIn, InLag, pageTests, page-passes, answerBy, answer, reads, same-answer}

@@ -18,7 +18,7 @@ use Rattle.slots.specs.Table.{Seat, noPage, vacant, changedAt, changedPage, tou
 use Rattle.slots.specs.declared.Slots.{Slots}
 use Rattle.recorder.specs.World.{World, Reply, addHit, addMiss, addEviction, addBypass, pageSize, slotCount, kindOf, slotBytes, baseBytes, slotFor}
 use Rattle.recorder.specs.Calls.{unclean, hitWorld, missWorld, metaBypass, rawBypass, laidIn, readReply, written, writeReply, grown, zeroPage, growSeated, growReply}
-use Rattle.promises.specs.Facts.{Ruled, within, end-small, seats}
+use Rattle.recorder.specs.Facts.{Ruled, within, end-small, seats}
 use Rattle.promises.specs.Good.{contents}
 use Rattle.promises.specs.Ways.{Span, seatFor, Reads, Writes, Grows, refused, hit, miss, bypass, raw, seat, read-way, write-way, grow-way}
 use Rattle.promises.specs.Frames.{span-here, span-other, page-here, page-other, Framed, framed-same, framed-raw, kind-new, framed-grow-meta, framed-grow-raw}

@@ -16,7 +16,7 @@ use Rattle.slots.specs.Table.{pageAt, vacant, changedAt, slotOf}
 use Rattle.slots.specs.declared.Slots.{Slots}
 use Rattle.recorder.specs.World.{World, pageSize, slotCount, entriesOf, kindOf, slotBytes, baseBytes, slotFor}
 use Rattle.recorder.specs.declared.Counts.{Counts}
-use Rattle.promises.specs.Facts.{Ruled, seats}
+use Rattle.recorder.specs.Facts.{Ruled, seats}
 use Rattle.promises.specs.Good.{view, contents, Good, Quiet}
 use Rattle.promises.specs.Frames.{Framed, next, quiet-same, quiet-framed}
 use Rattle.promises.specs.Nexts.{Next, ruled-next, good-next, good-next-ending}

@@ -10,7 +10,7 @@ use Rattle.octets.specs.Part.{lay}
 use Rattle.recorder.specs.World.{World, Reply, kindOf}
 use Rattle.recorder.specs.Calls.{hitWorld, missWorld, rawBypass, written, writeReply}
 use Rattle.recorder.specs.Runs.{write, reply}
-use Rattle.promises.specs.Facts.{Ruled}
+use Rattle.recorder.specs.Facts.{Ruled}
 use Rattle.promises.specs.Good.{contents, Good}
 use Rattle.promises.specs.Ways.{Span, Writes, refused, hit, miss, raw, write-way}
 use Rattle.promises.specs.Refused.{refused-same}

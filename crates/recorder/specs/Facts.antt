@@ -22,10 +22,15 @@ use Rattle.slots.specs.Sits.{Whole, Sits, sits, is-some}
 use Rattle.slots.specs.Table.{pageAt, vacant}
 use Rattle.ledger.specs.Entries.{pageOf, placeOf, isOwed}
 use Rattle.ledger.specs.Rowed.{Small}
+use Rattle.ledger.specs.Rules.{entryRules, ledgerRules}
 use Rattle.ledger.specs.View.{indexed, retired, retiredAt}
 use Rattle.ledger.specs.declared.Entry.{Entry}
 use Rattle.recorder.specs.World.{World, slotCount, waitOf, entriesOf, kindOf, metadata, slotFor}
-use Rattle.recorder.specs.Rules.{entryRule, rules, longEnough, kindRules, standing}
+use Rattle.recorder.specs.Rules.{inSlot, rules, longEnough, kindRules, standing}
+
+-- the rules of one entry, in this world
+abbrev ruleOf : World → Entry → Bool
+ruleOf w e = entryRules (w .state .settings) (w .state .end) (w .state .closed) (inSlot w) (w .ledger) e
 
 -- one entry
 pub record EntryFacts (w : World) (e : Entry) : Type 0 where
@@ -39,8 +44,8 @@ pub record EntryFacts (w : World) (e : Entry) : Type 0 where
 some-is : (o : Option ℕ) (i : ℕ) → o ≡ some i → isSome o ≡ true
 some-is o i e = rw e
 
-pub entry-facts : (w : World) (e : Entry) → entryRule w e ≡ true → EntryFacts w e
-unfolding entryRule
+pub entry-facts : (w : World) (e : Entry) → ruleOf w e ≡ true → EntryFacts w e
+unfolding entryRules
 entry-facts w e h =
     let f = both _ _ h in
     let p = both _ _ (f .0) in
@@ -56,8 +61,8 @@ entry-facts w e h =
       not-retired = not-true (retired (w .state .settings) (w .ledger) (placeOf e)) (f .1);
     }
 
-pub entry-back : (w : World) (e : Entry) → EntryFacts w e → entryRule w e ≡ true
-unfolding entryRule
+pub entry-back : (w : World) (e : Entry) → EntryFacts w e → ruleOf w e ≡ true
+unfolding entryRules
 entry-back w e f =
     rw (
       lt-ltb (pageOf e) (w .state .end) (f .page-below),
@@ -94,15 +99,15 @@ unless-back true b h = h refl
 unless-back false b h = refl
 
 pub rule-facts : (w : World) → rules w ≡ true → RuleFacts w
-unfolding rules
+unfolding rules ledgerRules entriesOf
 rule-facts w h =
     let s = w .state .settings in
-    let i = both _ _ h in
+    let t = both _ _ h in
+    let i = both _ _ (t .1) in
     let a = both _ _ (i .0) in
-    let e = both _ _ (a .0) in
-    let o = both _ _ (e .0) in
-    let t = both _ _ (o .0) in
-    let c = both _ _ (t .0) in
+    let o = both _ _ (a .0) in
+    let u = both _ _ (t .0) in
+    let c = both _ _ (u .0) in
     let n = both _ _ (c .0) in
     let l = both _ _ (n .0) in
     record {
@@ -110,9 +115,9 @@ rule-facts w h =
       ledger-long = leb-true (ledgerLength s) (length (w .ledger)) (l .1);
       ended = leb-true (w .state .end) (s .capacity) (n .1);
       counted = leb-true (w .state .entries) (entries s) (c .1);
-      slots = t .1;
-      ascends = o .1;
-      each = every-map (entry-facts w) (entriesOf w) (allOf-every (entryRule w) (entriesOf w) (e .1));
+      slots = u .1;
+      ascends = o .0;
+      each = every-map (entry-facts w) (entriesOf w) (allOf-every (ruleOf w) (entriesOf w) (o .1));
       alone = a .1;
       rested =
           λ q b r.
@@ -123,7 +128,7 @@ rule-facts w h =
     }
 
 pub rule-back : (w : World) → RuleFacts w → rules w ≡ true
-unfolding rules
+unfolding rules ledgerRules entriesOf
 rule-back w f =
     let s = w .state .settings in
     rw (
@@ -133,7 +138,7 @@ rule-back w f =
       le-leb (w .state .entries) (entries s) (f .counted),
       f .slots,
       f .ascends,
-      every-allOf (entryRule w) (entry-back w) (entriesOf w) (f .each),
+      every-allOf (ruleOf w) (entry-back w) (entriesOf w) (f .each),
       f .alone,
     )
     (every-allOf (λ q. not (retired s (w .ledger) q) || leb (retiredAt s (w .ledger) q .0) (w .state .closed .0))

@@ -24,10 +24,10 @@ use Rattle.ledger.specs.Closing.{Closing, newOf, laterOf, small-later}
 use Rattle.ledger.specs.Due.{dueOf}
 use Rattle.ledger.specs.Guarded.{later-read}
 use Rattle.ledger.specs.Rowed.{Small}
 use Rattle.recorder.specs.Close.{openTick, changedIn, changes, freePlaces, given, freshEntries, staying, after, dueEntries, stores, ledgerAfter, closed, suffices}
 use Rattle.recorder.specs.World.{World, pageSize, slotCount, entriesOf, kindOf, slotBytes, slotFor, bytesIn}
-use Rattle.promises.specs.Facts.{Ruled, within, end-small, seats}
-use Rattle.promises.specs.Stored.{length-toSide, length-toBase}
+use Rattle.recorder.specs.Facts.{Ruled, within, end-small, seats}
+use Rattle.recorder.specs.Stored.{length-toSide, length-toBase}
 
 module _ (w : World) where
   -- State and slices.
