@@ -32,6 +32,7 @@ pub mod Longer
 pub mod NeverBroken
 pub mod Nexts
 pub mod Opened
+pub mod Performed
 pub mod Puts
 pub mod Quieted
 pub mod Reached

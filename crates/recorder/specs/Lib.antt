@@ -1,8 +1,14 @@
 pub mod Calls
+pub mod Carried
 pub mod Close
 pub mod Closed
 pub mod Facts
+pub mod Outcome
+pub mod Planned
 pub mod Rules
 pub mod Runs
 pub mod Stored
+pub mod Stretches
+pub mod Tests
+pub mod Using
 pub mod World

@@ -89,7 +89,7 @@ module _ (w : World) where
   frontAfter =
       headerFor (w .state .settings) (openTick w) (w .state .end) (map indexed (after w)) ++ indexBytes (w .state .settings) (map indexed (after w))
 
-  front-laid : (xs : List ℕ) → toSide (frontStores w) xs ≡ lay xs 0 frontAfter
+  pub front-laid : (xs : List ℕ) → toSide (frontStores w) xs ≡ lay xs 0 frontAfter
   unfolding frontStores toSide
   front-laid xs =
       let header : List ℕ = headerFor (w .state .settings) (openTick w) (w .state .end) (map indexed (after w)) in

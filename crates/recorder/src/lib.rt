@@ -1,5 +1,16 @@
 // The recorder (document 01, "What the recorder does"): its state, and the five calls. The state is this struct by value and
-// the lent ledger; base, side file, page buffer and kind table are lent to each call.
+// the lent ledger; base, side file, page buffer and kind table are lent to each call. A slice that a call does not write is
+// lent to it for reading only.
+pub mod buffer;
+pub mod calls;
+pub mod close;
+pub mod counting;
+pub mod front;
+pub mod judge;
+pub mod plan;
+pub mod stores;
+pub mod tests;
+
 use slots::Slots;
 use units::Settings;
 use units::Tick;
@@ -24,4 +35,11 @@ pub struct State {
     pub slots: Slots,
     pub meta: Counts,
     pub raw: Counts,
+}
+
+// A number of refusal and the state as it was given, or 0 and the state from now on.
+#[repr(C)]
+pub struct Answer {
+    pub number: u32,
+    pub state: State,
 }

@@ -1,12 +1,13 @@
--- What a seal leaves: rows of the index that stand already, zeros behind them, and the header with their checksum. With the
--- rows of entries laid before, that is the front that open and close write. Assumes nothing.
+-- What a seal leaves: the header, with the checksum of the rows of the index that stand already. With the index of entries
+-- laid before, that is the front that open and close write. Assumes nothing.
 use Prim.Native.Nat.{ℕ, _+_, _-_, _*_, _≤_}
 use mathlib.Core.Path.{_≡_, refl, _∙_, sym, ap}
 use mathlib.Core.List.{List, [], _++_}
+use native.Mathlib.Nat.{sub-zero}
 use native.Mathlib.Omega.{arith}
 use lib.ListN.{length, replicate}
 use Rattle.octets.specs.Number.{bytes, bytes16, bytes32}
-use Rattle.octets.specs.Part.{part, lay, lay-nil, lay-next, lay-comm, part-lay-same}
+use Rattle.octets.specs.Part.{part, lay, lay-next, lay-comm, part-lay-same, part-lay-before}
 use Rattle.octets.specs.Rows.{join}
 use Rattle.units.specs.Sizes.{headerLength, indexRow, entries}
 use Rattle.units.specs.declared.Settings.{Settings}
@@ -33,22 +34,24 @@ length-first h = refl
 
 unfoldable pub sealed : Settings → Tick → ℕ → ℕ → List ℕ → List ℕ
 sealed s closed end n xs =
-    lay (lay xs (headerLength + indexRow * n) (replicate (indexRow * (entries s - n)) 0)) 0
-    (headerBytes (record { settings = s; closed = closed; end = end; entries = n }) (checksum (part xs headerLength (indexRow * n))))
+    lay xs 0 (headerBytes (record { settings = s; closed = closed; end = end; entries = n }) (checksum (part xs headerLength (indexRow * n))))
 
 module _ (s : Settings) (closed : Tick) (end : ℕ) (ys : List IndexEntry) (side : List ℕ) where
-  -- the rows were laid, and then sealed
+  -- the index was laid, and then sealed
   pub sealed-rows : headerLength + indexRow * length ys ≤ length side
-      → sealed s closed end (length ys) (lay side headerLength (indexRows ys))
+      → sealed s closed end (length ys) (lay side headerLength (indexBytes s ys))
       ≡ lay (lay side headerLength (indexBytes s ys)) 0 (headerFor s closed end ys)
   unfolding sealed indexBytes headerFor
   sealed-rows h =
       let n = indexRow * length ys in
+      let zeros : List ℕ = replicate (indexRow * (entries s - length ys)) 0 in
       let l = length-indexRows ys in
-      let p : part (lay side headerLength (indexRows ys)) headerLength n ≡ indexRows ys
-      = ap (part (lay side headerLength (indexRows ys)) headerLength) (sym l)
+      let p : part (lay side headerLength (indexRows ys ++ zeros)) headerLength n ≡ indexRows ys
+      = ap (λ (xs : List ℕ). part xs headerLength n) (sym (lay-next side headerLength (indexRows ys) zeros (headerLength + n) (omega arith)))
+      ∙ part-lay-before (lay side headerLength (indexRows ys)) (headerLength + n) zeros headerLength n (omega arith)
+      ∙ ap (part (lay side headerLength (indexRows ys)) headerLength) (sym l)
       ∙ part-lay-same side headerLength (indexRows ys) (omega arith) in
-      rw (p, lay-next side headerLength (indexRows ys) (replicate (indexRow * (entries s - length ys)) 0) (headerLength + n) (omega arith))
+      rw p
 
   -- index and header are one front
   pub front-laid : lay (lay side headerLength (indexBytes s ys)) 0 (headerFor s closed end ys)
@@ -58,11 +61,14 @@ module _ (s : Settings) (closed : Tick) (end : ℕ) (ys : List IndexEntry) (side
       sym (lay-comm side 0 (headerFor s closed end ys) headerLength (indexBytes s ys) (omega arith))
       ∙ lay-next side 0 (headerFor s closed end ys) (indexBytes s ys) headerLength (omega arith)
 
--- without entries
+-- without entries: zeros, sealed
 pub sealed-empty : (s : Settings) (closed : Tick) (end : ℕ) (side : List ℕ) → headerLength ≤ length side
-    → sealed s closed end 0 side ≡ lay side 0 (headerFor s closed end [] ++ indexBytes s [])
-unfolding indexRows join
+    → sealed s closed end 0 (lay side headerLength (replicate (indexRow * entries s) 0)) ≡ lay side 0 (headerFor s closed end [] ++ indexBytes s [])
+unfolding indexBytes indexRows join
 sealed-empty s closed end side h =
-    ap (sealed s closed end 0) (sym (lay-nil side headerLength))
+    ap (λ (ys : List ℕ). sealed s closed end 0 (lay side headerLength ys)) zeros
     ∙ sealed-rows s closed end [] side (omega arith)
     ∙ front-laid s closed end [] side
+  where
+    zeros : replicate (indexRow * entries s) 0 ≡ indexBytes s []
+    zeros = rw sub-zero

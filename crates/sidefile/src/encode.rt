@@ -1,7 +1,6 @@
-// Header and index written. The recorder lays its rows into the index and then seals it: zeros behind the rows, and the
-// header last.
+// The header written. The recorder lays the whole index and then seals it: the header comes last, with the checksum of the
+// rows that stand. The index without entries is laid here.
 use crate::Header;
-use crate::IndexEntry;
 use crate::layout;
 use crate::wide;
 use units::Settings;
@@ -9,12 +8,11 @@ use units::Tick;
 ghost use mathlib.Core.Path.{_≡_};
 ghost use mathlib.Core.Bool.{true};
 ghost use mathlib.Core.List.{[], _++_};
-ghost use Prim.Native.Nat.{_+_, _-_, _*_, _≤_};
-ghost use lib.ListN.{length, replicate};
+ghost use Prim.Native.Nat.{_+_, _*_, _≤_};
+ghost use lib.ListN.{length};
 ghost use Rattle.octets.specs.Part.{lay};
-ghost use Rattle.units.specs.Sizes as Sizes;
-ghost use Rattle.units.specs.Sizes.{headerLength, indexRow};
-ghost use Rattle.sidefile.specs.Encode.{headerBytes, headerFor, indexRowOf, indexBytes};
+ghost use Rattle.units.specs.Sizes.{headerLength, indexRow, limits, indexEnd};
+ghost use Rattle.sidefile.specs.Encode.{headerBytes, headerFor, indexBytes};
 ghost use Rattle.sidefile.specs.Sealed.{firstBytes, secondBytes, sealed};
 
 // Bytes 0 to 15.
@@ -52,40 +50,13 @@ pub fn write_header(s: &mut [u8], header: Header, sum: u32)
     octets::store32(s, layout::HEADER_SUM_AT, own);
 }
 
-// Row i of the index.
-pub fn write_index_row(s: &mut [u8], i: usize, x: IndexEntry)
-    requires { ⌜ headerLength + indexRow * i + indexRow ≤ length (now s) ⌝ }
-    ensures { λ _. ⌜ now (s .exit) ≡ lay (now (s .entry)) (headerLength + indexRow * i) (indexRowOf x) ⌝ }
-{
-    let at = Settings::HEADER_LENGTH + Settings::INDEX_ROW * i;
-    octets::store32(s, at, x.page.0);
-    octets::store32(s, at + 4, x.place.0);
-    octets::store32(s, at + 8, x.changed.0);
-    octets::store32(s, at + 12, x.sum);
-}
-
-// The rows of the index from row n on are zero.
-pub fn clear_spare(s: &mut [u8], settings: Settings, n: usize)
-    requires { ⌜ (Sizes.limits settings ≡ true) × (n ≤ Sizes.entries settings) × (Sizes.indexEnd settings ≤ length (now s)) ⌝ }
-    ensures { λ _. ⌜ now (s .exit) ≡ lay (now (s .entry)) (headerLength + indexRow * n) (replicate (indexRow * (Sizes.entries settings - n)) 0) ⌝ }
-{
-    let x = settings.entries();
-    octets::clear(
-        s,
-        Settings::HEADER_LENGTH + Settings::INDEX_ROW * n,
-        Settings::INDEX_ROW * (x - n),
-    );
-}
-
-// The first n rows of the index stand. Zeros behind them, and the header with their checksum.
+// The header of an index whose first n rows stand.
 pub fn seal(s: &mut [u8], settings: Settings, closed: Tick, end: u32, n: u32)
-    requires { ⌜ (Sizes.limits settings ≡ true) × (n ≤ Sizes.entries settings) × (Sizes.indexEnd settings ≤ length (now s)) ⌝ }
+    requires { ⌜ headerLength + indexRow * n ≤ length (now s) ⌝ }
     ensures { λ _. ⌜ now (s .exit) ≡ sealed settings closed end n (now (s .entry)) ⌝ }
 {
-    let rows = wide(n);
-    clear_spare(s, settings, rows);
     let from = Settings::HEADER_LENGTH;
-    let to = from + Settings::INDEX_ROW * rows;
+    let to = from + Settings::INDEX_ROW * wide(n);
     let sum = lookup3::checksum(&s[from..to]);
     let header = Header {
         settings,
@@ -98,8 +69,13 @@ pub fn seal(s: &mut [u8], settings: Settings, closed: Tick, end: u32, n: u32)
 
 // The header and an index without entries.
 pub fn write_empty(s: &mut [u8], settings: Settings, closed: Tick, end: u32)
-    requires { ⌜ (Sizes.limits settings ≡ true) × (Sizes.indexEnd settings ≤ length (now s)) ⌝ }
+    requires { ⌜ (limits settings ≡ true) × (indexEnd settings ≤ length (now s)) ⌝ }
     ensures { λ _. ⌜ now (s .exit) ≡ lay (now (s .entry)) 0 (headerFor settings closed end [] ++ indexBytes settings []) ⌝ }
 {
+    octets::clear(
+        s,
+        Settings::HEADER_LENGTH,
+        Settings::INDEX_ROW * settings.entries(),
+    );
     seal(s, settings, closed, end, 0);
 }

@@ -1,3 +1,4 @@
+pub mod Changing
 pub mod Counted
 pub mod Listing
 pub mod Turns

@@ -59,7 +59,7 @@ unfolding moving
 moving-start x p i o = map-last toPage (without x (listed i o)) p (drop i o)
 
 module _ (x i j : ℕ) (o : List Page) (e : i ≡ suc j) (h : j < length o) where
-  last-of : listed i o ≡ listed j o ++ (getD o j (toPage 0) .0 ∷ [])
+  pub last-of : listed i o ≡ listed j o ++ (getD o j (toPage 0) .0 ∷ [])
   last-of = rw (e, take-suc o j (toPage 0) h) (more (take j o))
     where
       more : (l : List Page) → map (λ p. p .0) (l ++ (getD o j (toPage 0) ∷ [])) ≡ map (λ p. p .0) l ++ (getD o j (toPage 0) .0 ∷ [])

@@ -1,5 +1,6 @@
 pub mod Answers
 pub mod Asked
+pub mod Changes
 pub mod Judged
 pub mod Moves
 pub mod Order

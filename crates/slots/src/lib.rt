@@ -1,5 +1,6 @@
 // The slot table of the page buffer (document 01, "Slots"): which page each slot has, which are changed, and the order of
 // use. By value: some 150 bytes.
+pub mod changes;
 pub mod judge;
 pub mod lookup;
 pub mod moves;

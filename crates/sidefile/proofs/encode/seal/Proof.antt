@@ -1,16 +1,18 @@
+use Prim.Native.Nat.{ℕ, _+_, _-_, _*_}
+use mathlib.Core.Path.{_≡_, _∙_, ap}
 use native.Mathlib.Omega.{arith}
-use Rattle.units.specs.Sizes.{indexEnd}
-use Rattle.sidefile.specs.Encode.{checksum}
-use Rattle.sidefile.proofs.Laying.{sealing}
+use lib.ListN.{take, drop}
+use Rattle.octets.specs.Part.{part, lay}
+use Rattle.units.specs.Sizes.{headerLength, indexRow}
+use Rattle.sidefile.specs.declared.Header.{Header}
+use Rattle.sidefile.specs.Encode.{checksum, headerBytes}
+use Rattle.sidefile.specs.Sealed.{sealed}
 use borrow.Author.Needs.{needs}
 use Rattle.sidefile.proofs.encode.seal.Statement.{statement}
 use Rattle.sidefile.proofs.encode.seal.Tie as tie
 
 wide-requires : tie.Need-wide-requires
 wide-requires c κs = search needs
-
-clear-spare-requires : tie.Need-clear-spare-requires
-clear-spare-requires c κs = search needs
 
 mul-to : tie.Need-mul-to
 mul-to c = search needs
@@ -25,38 +27,34 @@ part-checksum-start : tie.Need-part-checksum-start
 part-checksum-start c = search needs
 
 part-checksum-end : tie.Need-part-checksum-end
-unfolding indexEnd
-part-checksum-end c =
-    let w = c .before .before .before .before .before in
-    let p = w .before .before .pre in
-    omega (arith, p .1, p .2, w .wide .ensures .0)
+part-checksum-end c = search needs
 
 checksum-requires : tie.Need-checksum-requires
 checksum-requires c κs = search needs
 
 write-header-requires : tie.Need-write-header-requires
-unfolding indexEnd
-write-header-requires c κs = omega (arith, c .before .before .before .before .before .before .before .before .before .before .pre .2)
+write-header-requires c κs = search needs
 
 same-length : tie.Need-same-length
 same-length c = search needs
 
 returns : tie.Need-returns
-unfolding checksum
+unfolding sealed part checksum
 returns c =
-    let a = c .before .before .before .before .before .before .before .before .before .before .before .before .before .args in
-    sealing (a .settings) (a .closed) (a .end) (a .n) _ _ (a .s .now) _ _
-    (c .before .before .before .before .before .before .before .before .before .before .before .wide .ensures .0)
-    (c .before .before .before .before .before .before .before .before .before .clear-spare .ensures)
-    (c .before .before .before .before .checksum .ensures)
-    (c .before .before .write-header .ensures)
+    let w = c .before .before in
+    let a = w .before .before .before .before .before .before .before .args in
+    let h : Header = record { settings = a .settings; closed = a .closed; end = a .end; entries = a .n } in
+    let rows = w .before .before .before .before .before .wide in
+    let long : headerLength + indexRow * rows .result - headerLength ≡ indexRow * a .n = omega (arith, rows .ensures .0) in
+    w .write-header .ensures
+    ∙ ap (λ (sum : ℕ). lay (a .s .now) 0 (headerBytes h sum))
+    (w .before .before .checksum .ensures ∙ ap (λ (n : ℕ). checksum (take n (drop headerLength (a .s .now)))) long)
 
 pub seal-spec : {M : Type 1} → statement M
 seal-spec =
     tie.close
     (tie.spec
     wide-requires
-    clear-spare-requires
     mul-to
     add-to
     sub-checksum

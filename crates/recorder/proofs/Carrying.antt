@@ -1,0 +1,236 @@
+-- A planned close carried out: its arrays are the new entries, the ledger can be renewed by them, and what is copied and
+-- written is what the close is defined to store. Assumes nothing.
+use Prim.Native.Nat.{ℕ, zero, suc, _*_, _<_, _≤_}
+use mathlib.Core.Path.{_≡_, refl, _∙_, sym, ap}
+use mathlib.Core.Bool.{true}
+use mathlib.Core.List.{List, [], _∷_, map}
+use mathlib.Core.Option.{Option, some, none}
+use native.Mathlib.Omega.{arith}
+use lib.ListN.{length, take}
+use Rattle.lists.specs.Below.{below, every-from}
+use Rattle.lists.specs.Scans.{Every, Every.done, Every.more, every-map, every-keep}
+use Rattle.octets.specs.Number.{Octets}
+use Rattle.octets.specs.Part.{lay, length-lay}
+use Rattle.units.specs.Bounds.{Within, limits-within, entries-most, places-most, firstImage-least}
+use Rattle.units.specs.Sizes.{top, entryRow, headerLength, limits, entries, places, indexEnd, sideLength, placesAt, ledgerLength}
+use Rattle.units.specs.declared.Tick.{Tick}
+use Rattle.sidefile.specs.Decode.{checksum-below}
+use Rattle.sidefile.specs.Encode.{imageSum, headerFor, indexBytes}
+use Rattle.slots.specs.Table.{toPage, slotOf, unmarked}
+use Rattle.slots.specs.declared.Slots.{Slots}
+use Rattle.ledger.specs.Changed.{numbersOf}
+use Rattle.ledger.specs.Closes.{fresh-arrays, later-in, renewed-later, renews, due-now}
+use Rattle.ledger.specs.Closing.{IsNew, newOf, new-facts, every-later, came-from, small-later, length-fresh}
+use Rattle.ledger.specs.Entries.{pageOf}
+use Rattle.ledger.specs.Laid.{layEach}
+use Rattle.ledger.specs.Renewed.{freshAt, freshOf, laterIn, renewed, Renews}
+use Rattle.ledger.specs.Rowed.{Small, small-entriesIn}
+use Rattle.ledger.specs.Guarded.{later-read}
+use Rattle.ledger.specs.Tables.{placesOf}
+use Rattle.ledger.specs.View.{indexed, entriesIn}
+use Rattle.ledger.specs.declared.Entry.{Entry}
+use Rattle.ledger.specs.declared.renewal.Fresh.{Fresh}
+use Rattle.recorder.specs.Carried.{Carries}
+use Rattle.recorder.specs.Close.{openTick, changes, freePlaces, given, freshEntries, staying, after, frontStores, toSide, ledgerAfter, closed}
+use Rattle.recorder.specs.Closed.{closingOf, fresh-new, after-later, due-of, enough}
+use Rattle.recorder.specs.Facts.{RuleFacts, rule-facts}
+use Rattle.recorder.specs.Outcome.{lent}
+use Rattle.recorder.specs.Stored.{imageStart, heldBytes, imaged, front-laid, side-stored, base-stored}
+use Rattle.recorder.specs.Stretches.{imagesLaid, imageSums, dueLaid}
+use Rattle.recorder.specs.World.{World, setClosed, setEntries, setSlots, slotCount, entriesOf, slotBytes, slotFor, bytesAt, bytesIn}
+use Rattle.recorder.specs.declared.plan.Plan.{Plan}
+
+every-take : {A : Type 0} {P : A → Type 0} (n : ℕ) (l : List A) → Every P l → Every P (take n l)
+every-take zero l e = done
+every-take (suc n) [] e = done
+every-take (suc n) (x ∷ xs) (more h e) = more h (every-take n xs e)
+
+each-map : {A B : Type 0} (at : B → ℕ) (b : B → List ℕ) (g : A → B) (l : List A) (xs : List ℕ) → layEach at b (map g l) xs ≡ layEach (λ x. at (g x)) (λ x. b (g x)) l xs
+unfolding layEach
+each-map at b g [] xs = refl
+each-map at b g (x ∷ l) xs = each-map at b g l (lay xs (at (g x)) (b (g x)))
+
+-- what the copies look at: the state and the page buffer
+abbrev pub held : World → World
+held w = lent (w .state) [] [] [] (w .buffer) []
+
+held-same : (w : World) → bytesIn (held w) ≡ bytesIn w
+unfolding bytesIn slotFor slotBytes
+held-same w = λ i p. one (slotOf (slotCount w) (w .state .slots) p) i
+  where
+    one : (o : Option ℕ) → bytesAt (held w) o ≡ bytesAt w o
+    one none = refl
+    one (some j) = refl
+
+-- the new entries of a plan with these checksums
+abbrev pub freshFor : Plan → List ℕ → Fresh
+freshFor p sums = record { pages = p .pages; places = p .places; sums = sums; entered = p .entered; count = p .count }
+
+-- what is known once the checksums are there: the ledger is of bytes, and these are the checksums of the new images
+pub record Summed (w : World) (p : Plan) (N : Tick) (sums : List ℕ) : Type 0 where
+  pub carries : Carries w p N
+  pub octets : Octets (w .ledger)
+  pub made : take (p .count) sums ≡ imageSums (held w) (numbersOf (p .count) (p .pages))
+
+-- and once the ledger is renewed: how many entries there are, and its bytes
+pub record Anew (w : World) (p : Plan) (N : Tick) (sums : List ℕ) (n : ℕ) (ledger : List ℕ) : Type 0 where
+  pub summed : Summed w p N sums
+  pub count : n ≡ length (laterIn (w .ledger) (w .state .entries) (p .going) (freshOf N (freshFor p sums)))
+  pub bytes : ledger ≡ lay (w .ledger) 0 (renewed (w .state .settings) (w .ledger) (w .state .entries) (p .going) (freshOf N (freshFor p sums)) N)
+
+module _ {w : World} {p : Plan} {N : Tick} (k : Carries w p N) where
+  facts : RuleFacts w
+  facts = rule-facts w (k .ruled)
+
+  pub limited : limits (w .state .settings) ≡ true
+  limited = facts .limited
+
+  within : Within (w .state .settings)
+  within = limits-within (w .state .settings) limited
+
+  room : (length (changes w) ≤ length (freePlaces w)) × (length (after w) ≤ entries (w .state .settings))
+  room = enough w (sym (k .planned .enough) ∙ k .enough)
+
+  -- the images go into places
+  pub places-below : Every (λ q. q < places (w .state .settings)) (placesOf (p .count) (p .places))
+  unfolding freePlaces
+  places-below =
+      rw (k .planned .placed (k .enough))
+      (every-take (p .count) (freePlaces w)
+      (every-map (λ q h. omega (arith, h .1 .1)) (freePlaces w)
+      (every-keep _ (below (places (w .state .settings))) (every-from 0 (places (w .state .settings))))))
+
+  -- the numbers of entries have 32 bits
+  sums-small : (q : ℕ) → imageSum (toPage q) (bytesIn w q) ≤ top
+  unfolding imageSum
+  sums-small q = omega (arith, checksum-below (bytesIn w q))
+
+  end-small : w .state .end ≤ top
+  end-small = omega (arith, facts .ended, within .capacity-most)
+
+  places-small : places (w .state .settings) ≤ top
+  places-small = omega (arith, places-most (w .state .settings) within)
+
+module _ {w : World} {p : Plan} {N : Tick} {sums : List ℕ} (m : Summed w p N sums) where
+  k : Carries w p N
+  k = m .carries
+
+  fresh-made : freshOf N (freshFor p sums) ≡ newOf (closingOf w)
+  unfolding freshEntries given imageSums
+  fresh-made =
+      rw (k .ticked)
+      (fresh-arrays (openTick w) (entriesOf w) (λ q. imageSum (toPage q) (bytesIn w q)) (changes w) (freePlaces w) (freshFor p sums)
+      (sym (k .planned .counted)) (room k .0) (k .planned .changed) (k .planned .placed (k .enough))
+      (m .made ∙ rw (k .planned .changed, held-same w)) (k .planned .came)
+      ∙ fresh-new w)
+
+  made-count : length (newOf (closingOf w)) ≡ p .count
+  unfolding changes freePlaces
+  made-count =
+      length-fresh (openTick w) (entriesOf w) (λ q. imageSum (toPage q) (bytesIn w q)) (changes w) (freePlaces w) (room k .0) ∙ sym (k .planned .counted)
+
+  smalls : Every Small (entriesOf w)
+  unfolding entriesOf
+  smalls = small-entriesIn (w .state .entries) (w .ledger) (m .octets)
+
+  small-made : Every Small (newOf (closingOf w))
+  small-made = every-map new (newOf (closingOf w)) (new-facts (closingOf w))
+    where
+      new : (x : Entry) → IsNew (closingOf w) x → Small x
+      new x n =
+          record {
+            page = omega (arith, n .page-below, end-small k);
+            place = omega (arith, n .place-below, places-small k);
+            changed = rw (n .went) (omega (arith, k .low));
+            sum = rw (n .summed) (omega (arith, sums-small k (pageOf x)));
+            entered = came-from (closingOf w) (λ t. t .0 < 4294967296) x n (omega (arith, k .low)) (every-map (λ y h z. h .entered) (entriesOf w) smalls);
+          }
+
+  -- the ledger can be renewed
+  pub can-renew : Renews (w .state .settings) (w .ledger) (w .state .entries) (p .going) (freshOf N (freshFor p sums)) (p .count)
+  unfolding entriesOf
+  can-renew =
+      rw fresh-made
+      (renews (closingOf w) (w .state .entries) refl (p .going) (k .planned .gone) (limited k) (facts k .ledger-long) (facts k .counted) (facts k .ascends)
+      (every-map (λ e f. f .place-below) (entriesOf w) (facts k .each)) (p .count) (k .planned .most) made-count (rw (← after-later w) (room k .1)) small-made)
+
+  images-made : imagesLaid (held w) (p .pages) (p .places) (p .count) (w .side) ≡ imaged w
+  unfolding imagesLaid freshOf freshAt
+  images-made =
+      rw (held-same w)
+      (sym (each-map (imageStart w) (heldBytes w) (freshAt N (freshFor p sums)) (below (p .count)) (w .side))
+      ∙ ap (λ (es : List Entry). layEach (imageStart w) (heldBytes w) es (w .side)) (fresh-made ∙ sym (fresh-new w)))
+
+module _ {w : World} {p : Plan} {N : Tick} {sums : List ℕ} {n : ℕ} {ledger : List ℕ} (r : Anew w p N sums n ledger) where
+  c : Carries w p N
+  c = r .summed .carries
+
+  count-after : n ≡ length (after w)
+  unfolding entriesOf
+  count-after =
+      r .count ∙ rw (fresh-made (r .summed)) (ap length (later-in (closingOf w) (w .state .entries) refl (p .going) (c .planned .gone))) ∙ ap length (sym (after-later w))
+
+  ledger-after : ledger ≡ closed w .ledger
+  unfolding entriesOf closed ledgerAfter after freshEntries given changes freePlaces staying
+  ledger-after =
+      r .bytes
+      ∙ rw (fresh-made (r .summed), c .ticked) (renewed-later (closingOf w) (w .state .entries) refl (p .going) (c .planned .gone) (places-most (w .state .settings) (within c)))
+
+  read-after : entriesIn n ledger ≡ after w
+  unfolding closed ledgerAfter after freshEntries given changes freePlaces staying
+  read-after =
+      rw (count-after, ledger-after)
+      (later-read (closingOf w) (facts c .ledger-long) (rw (← after-later w) (room c .1))
+      (small-later (closingOf w) (omega (arith, c .low)) (end-small c) (places-small c) (sums-small c) (smalls (r .summed))))
+
+  pub few-after : n ≤ entries (w .state .settings)
+  few-after = omega (arith, count-after, room c .1)
+
+  pub small-after : n < 4294967296
+  small-after = omega (arith, few-after, entries-most (w .state .settings) (within c))
+
+  pub long-after : n * entryRow ≤ length ledger
+  unfolding ledgerLength placesAt
+  long-after =
+      omega (arith, few-after, facts c .ledger-long, ap length (r .bytes), length-lay (w .ledger) 0 (renewed (w .state .settings) (w .ledger) (w .state .entries) (p .going) (freshOf N (freshFor p sums)) N))
+
+  pub pages-after : Every (λ e. pageOf e < w .state .settings .capacity) (entriesIn n ledger)
+  pages-after =
+      rw (read-after, after-later w)
+      (every-later (closingOf w) (λ e x. omega (arith, x .page-below, facts c .ended)) (every-map (λ e f. omega (arith, f .page-below, facts c .ended)) (entriesOf w) (facts c .each)))
+
+  -- the front of the side file fits, whatever was laid over it
+  pub front-in : (side : List ℕ) → length side ≡ length (w .side) → indexEnd (w .state .settings) ≤ length side
+  unfolding sideLength
+  front-in side e = omega (arith, c .side-long, firstImage-least (w .state .settings) (within c))
+
+  -- the two files
+  base-after : dueLaid (held w) N (entriesIn n ledger) (w .base) ≡ closed w .base
+  unfolding dueLaid
+  base-after =
+      rw (
+        read-after,
+        c .ticked,
+        held-same w,
+        after-later w,
+        due-now (closingOf w) (facts c .ascends) (facts c .alone) (every-map (λ e f. f .changed-before) (entriesOf w) (facts c .each)),
+        ← due-of w,
+      )
+      (sym (base-stored w))
+
+  side-after : (side : List ℕ) → side ≡ imagesLaid (held w) (p .pages) (p .places) (p .count) (w .side)
+      → lay (lay side headerLength (indexBytes (w .state .settings) (map indexed (entriesIn n ledger)))) 0 (headerFor (w .state .settings) N (w .state .end) (map indexed (entriesIn n ledger)))
+      ≡ closed w .side
+  unfolding frontStores toSide
+  side-after side e = rw (e, images-made (r .summed), read-after, c .ticked) (front-laid w (imaged w) ∙ sym (side-stored w))
+
+  -- all of it is the close
+  pub carried : (t : Slots) → t ≡ unmarked (w .state .slots) → (base : List ℕ) → base ≡ dueLaid (held w) N (entriesIn n ledger) (w .base)
+      → (imaged′ : List ℕ) → imaged′ ≡ imagesLaid (held w) (p .pages) (p .places) (p .count) (w .side)
+      → (side : List ℕ)
+      → side ≡ lay (lay imaged′ headerLength (indexBytes (w .state .settings) (map indexed (entriesIn n ledger)))) 0 (headerFor (w .state .settings) N (w .state .end) (map indexed (entriesIn n ledger)))
+      → lent (setClosed N (setEntries n (setSlots t (w .state)))) ledger base side (w .buffer) (w .kinds) ≡ closed w
+  unfolding closed
+  carried t u base b imaged′ g side s =
+      λ i.
+      lent (setClosed (c .ticked i) (setEntries (count-after i) (setSlots (u i) (w .state)))) (ledger-after i) ((b ∙ base-after) i) ((s ∙ side-after imaged′ g) i) (w .buffer) (w .kinds)

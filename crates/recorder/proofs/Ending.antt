@@ -1,0 +1,92 @@
+-- What a close answers, by the verdict on its tests and by its plan. Assumes nothing.
+use Prim.Native.Nat.{ℕ, _<_}
+use mathlib.Core.Path.{_≡_, refl, _∙_, sym, ap}
+use mathlib.Core.Bool.{true, false, _&&_}
+use mathlib.Core.List.{List, [], _∷_, _++_, append-assoc}
+use native.Mathlib.Omega.{arith}
+use lib.Dec.{ltb}
+use borrow.Author.Tests.{ltb-true}
+use Rattle.lists.specs.Bools.{both, false-of}
+use Rattle.lists.specs.Scans.{allOf}
+use Rattle.units.specs.Refusals as Refusals
+use Rattle.units.specs.Sizes.{top, sideLength, baseLength, bufferLength}
+use Rattle.units.specs.Tests.{Test, passes, verdict, tested, passes-both, tested-fails, tested-append, tested-behind, verdict-passes}
+use Rattle.sidefile.specs.Passed.{verdict-none}
+use Rattle.recorder.specs.Carried.{Carries}
+use Rattle.recorder.specs.Close.{openTick, closed, suffices, closeTests, closeReply}
+use Rattle.recorder.specs.Facts.{Lengths, long-facts}
+use Rattle.recorder.specs.Outcome.{lent}
+use Rattle.recorder.specs.Planned.{Planned}
+use Rattle.recorder.specs.Rules.{rules, longEnough, kindRules, standing}
+use Rattle.recorder.specs.Tests.{lastTick}
+use Rattle.recorder.specs.World.{World, refuse, accept, slotFor}
+use Rattle.recorder.specs.declared.State.{State}
+use Rattle.recorder.specs.declared.plan.Plan.{Plan}
+use Rattle.recorder.proofs.Planning.{same-suffices, planned-in}
+
+module _ (w : World) where
+  -- the tests before 10
+  abbrev pub early : List Test
+  early = standing w ++ lastTick w
+
+  abbrev last : List Test
+  last = (Refusals.noPlace, suffices w) ∷ []
+
+  in-parts : closeReply w ≡ tested (early ++ last) (refuse w []) (accept (closed w) [])
+  unfolding closeReply closeTests lastTick
+  in-parts = ap (λ (ts : List Test). tested ts (refuse w []) (accept (closed w) [])) (sym (append-assoc (standing w) (lastTick w) last))
+
+  pub close-refused : (n : ℕ) → n ≡ verdict early → (n ≡ 0 → ⊥) → refuse w [] n ≡ closeReply w
+  close-refused n e ne =
+      sym (in-parts
+      ∙ tested-append (refuse w []) (accept (closed w) []) early last
+      ∙ tested-fails (refuse w []) (tested last (refuse w []) (accept (closed w) [])) early (false-of (passes early) (λ p. ne (e ∙ verdict-passes early p)))
+      ∙ ap (refuse w []) (sym e))
+
+  pub close-passes : (n : ℕ) → n ≡ verdict early → n ≡ 0 → passes early ≡ true
+  unfolding standing lastTick allOf
+  close-passes n e z = verdict-none early refl (sym e ∙ z)
+
+  module _ (g : passes early ≡ true) where
+    pub close-short : suffices w ≡ false → refuse w [] Refusals.noPlace ≡ closeReply w
+    unfolding tested
+    close-short s = sym (in-parts ∙ tested-behind (refuse w []) (accept (closed w) []) early last g ∙ rw s)
+
+    pub close-done : suffices w ≡ true → accept (closed w) [] ≡ closeReply w
+    unfolding tested
+    close-done s = sym (in-parts ∙ tested-behind (refuse w []) (accept (closed w) []) early last g ∙ rw s)
+
+    pub close-ruled : (rules w ≡ true) × Lengths (w .state .settings) w × (w .state .closed .0 < top)
+    unfolding standing lastTick passes
+    close-ruled =
+        let p = passes-both (standing w) (lastTick w) g in
+        let x = both (rules w) (longEnough (w .state .settings) w && (kindRules w && true)) (p .0) in
+        let y = both (longEnough (w .state .settings) w) (kindRules w && true) (x .1) in
+        (x .0, long-facts (w .state .settings) w (y .0), ltb-true (w .state .closed .0) top (both (ltb (w .state .closed .0) top) true (p .1) .0))
+
+-- the plan, which looks at the state and the ledger alone
+module _ (s : State) (ledger base side buffer kinds : List ℕ) where
+  abbrev whole : World
+  whole = lent s ledger base side buffer kinds
+
+  pub rules-alone : rules whole ≡ true → rules (lent s ledger [] [] [] []) ≡ true
+  unfolding rules slotFor
+  rules-alone h = h
+
+  pub told : (p : Plan) → Planned (lent s ledger [] [] [] []) p → p .enough ≡ suffices whole
+  told p q = q .enough ∙ same-suffices s ledger base side buffer kinds
+
+  pub can-carry : passes (early whole) ≡ true → (p : Plan) → Planned (lent s ledger [] [] [] []) p → p .enough ≡ true → (k : List ℕ) → Carries (lent s ledger base side buffer k) p (openTick whole)
+  unfolding rules slotFor baseLength sideLength bufferLength
+  can-carry g p q e k =
+      let r = close-ruled whole g in
+      record {
+        ruled = r .0;
+        base-long = omega (arith, r .1 .base-long);
+        side-long = r .1 .side-long;
+        buffer-long = omega (arith, r .1 .buffer-long);
+        low = r .2;
+        ticked = refl;
+        enough = e;
+        planned = planned-in s ledger base side buffer k p q;
+      }

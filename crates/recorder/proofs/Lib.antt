@@ -1,0 +1,11 @@
+pub mod Accepted
+pub mod Bringing
+pub mod Carrying
+pub mod Copying
+pub mod Ending
+pub mod Judging
+pub mod Masks
+pub mod Passes
+pub mod Planning
+pub mod Replied
+pub mod Testing

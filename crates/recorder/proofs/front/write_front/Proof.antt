@@ -1,0 +1,50 @@
+use Prim.Native.Nat.{ℕ}
+use mathlib.Core.Path.{_≡_, _∙_, sym, ap}
+use mathlib.Core.List.{List, map}
+use native.Mathlib.Omega.{arith}
+use borrow.Author.Needs.{needs}
+use lib.ListN.{length, length-map}
+use Rattle.octets.specs.Part.{lay, length-lay}
+use Rattle.units.specs.Bounds.{limits-within, entries-most}
+use Rattle.units.specs.Sizes.{headerLength, indexEnd}
+use Rattle.sidefile.specs.Encode.{indexBytes}
+use Rattle.sidefile.specs.Sealed.{sealed, sealed-rows}
+use Rattle.sidefile.specs.declared.IndexEntry.{IndexEntry}
+use Rattle.ledger.specs.Rowed.{length-entriesIn}
+use Rattle.ledger.specs.View.{indexed, entriesIn}
+use Rattle.recorder.proofs.front.write_front.Statement.{statement}
+use Rattle.recorder.proofs.front.write_front.Tie as tie
+
+write-index-requires : tie.Need-write-index-requires
+write-index-requires c κs = search needs
+
+cast-seal : tie.Need-cast-seal
+cast-seal c =
+    let s = c .before .before .before .before .before .before .before in
+    let m = entries-most (s .args .settings) (limits-within (s .args .settings) (s .pre .0)) in
+    search needs
+
+seal-requires : tie.Need-seal-requires
+unfolding indexEnd
+seal-requires c κs =
+    let s = c .before .before .before .before .before .before .before in
+    rw (c .before .before .before .write-index .ensures, length-lay) (omega (arith, s .pre .1, s .pre .3))
+
+same-length : tie.Need-same-length
+same-length c = search needs
+
+returns : tie.Need-returns
+unfolding indexEnd
+returns c =
+    let l = c .before .before .before .before .before .before in
+    let s = l .before .before .before .before in
+    let a = s .args in
+    let ys : List IndexEntry = map indexed (entriesIn (a .n) (a .ledger .now)) in
+    let k : length ys ≡ a .n = length-map (entriesIn (a .n) (a .ledger .now)) indexed ∙ length-entriesIn (a .n) (a .ledger .now) in
+    rw (c .before .before .seal .ensures, l .write-index .ensures)
+    (ap (λ (n : ℕ). sealed (a .settings) (a .tick) (a .end) n (lay (a .side .now) headerLength (indexBytes (a .settings) ys))) (sym k)
+    ∙ sealed-rows (a .settings) (a .tick) (a .end) ys (a .side .now) (omega (arith, s .pre .1, s .pre .3)))
+
+pub write-front-spec : {M : Type 1} → statement M
+write-front-spec =
+    tie.close (tie.spec write-index-requires cast-seal seal-requires same-length returns)

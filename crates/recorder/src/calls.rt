@@ -1,0 +1,244 @@
+// Open, read, write and grow. They take anything: every number, slice and state is judged before it is used. A refusal comes
+// before anything is written, and hands back the state that was given.
+use crate::Answer;
+use crate::Counts;
+use crate::State;
+use crate::buffer;
+use crate::tests;
+use sidefile::encode;
+use sidefile::wide;
+use slots::Slots;
+use units::Page;
+use units::Settings;
+use units::Tick;
+use units::refusal;
+ghost use mathlib.Core.Path.{_≡_};
+ghost use mathlib.Core.List.{[]};
+ghost use Prim.Native.Nat.{_+_, _<_};
+ghost use Rattle.recorder.specs.Calls as Calls;
+ghost use Rattle.recorder.specs.Outcome.{lent, answered};
+ghost use Rattle.recorder.specs.World.{setEnd, zeroState};
+
+// The kind byte of a metadata page.
+const METADATA: u8 = 0;
+
+const RAW: u8 = 1;
+
+impl Answer {
+    // The call is done, and this is the state from now on.
+    fn accepted(state: State) -> Answer
+        ensures { λ r. ⌜ r ≡ record { number = 0; state = state } ⌝ }
+    {
+        Answer { number: 0, state }
+    }
+
+    // The call is refused, and this is the state that was given.
+    fn refused(number: u32, state: State) -> Answer
+        ensures { λ r. ⌜ r ≡ record { number = number; state = state } ⌝ }
+    {
+        Answer { number, state }
+    }
+}
+
+impl State {
+    // The state of a refused open.
+    fn zero() -> State
+        ensures { λ r. ⌜ r ≡ zeroState ⌝ }
+    {
+        State {
+            settings: Settings {
+                size: 0,
+                slots: 0,
+                lag: 0,
+                capacity: 0,
+            },
+            end: 0,
+            closed: Tick(0),
+            entries: 0,
+            slots: Slots::zero(),
+            meta: Counts::none(),
+            raw: Counts::none(),
+        }
+    }
+
+    // The state of an accepted open.
+    fn first(settings: Settings, end: u32, tick: Tick) -> State
+        ensures { λ r. ⌜ r ≡ Calls.openState settings end (tick .0) ⌝ }
+    {
+        State {
+            settings,
+            end,
+            closed: tick,
+            entries: 0,
+            slots: Slots::empty(),
+            meta: Counts::none(),
+            raw: Counts::none(),
+        }
+    }
+
+    // The state with one page more.
+    fn grown(self) -> State
+        requires { ⌜ self .end < 4294967295 ⌝ }
+        ensures { λ r. ⌜ r ≡ setEnd (self .end + 1) self ⌝ }
+    {
+        State {
+            end: self.end + 1,
+            ..self
+        }
+    }
+
+    // The state with a raw access counted.
+    fn raw_bypass(self) -> State
+        ensures { λ r. ⌜ r ≡ Calls.rawBypass (lent self [] [] [] [] []) .state ⌝ }
+    {
+        let counts = self.raw;
+        State {
+            raw: counts.bypass(),
+            ..self
+        }
+    }
+
+    // The state with a metadata read counted that found no slot.
+    fn meta_bypass(self) -> State
+        ensures { λ r. ⌜ r ≡ Calls.metaBypass (lent self [] [] [] [] []) .state ⌝ }
+    {
+        let counts = self.meta;
+        State {
+            meta: counts.bypass(),
+            ..self
+        }
+    }
+}
+
+// Tick `tick` is closed, the index empty, the slots empty, the counts zero. 1, 2, 5 or 0.
+pub fn open(
+    settings: Settings,
+    end: u32,
+    tick: Tick,
+    ledger: &mut [u8],
+    base: &[u8],
+    side: &mut [u8],
+    buffer: &[u8],
+    kinds: &[u8],
+) -> Answer
+    ensures { λ r. ⌜ answered r (now (ledger .exit)) (now (base .entry)) (now (side .exit)) (now (buffer .entry)) (now (kinds .entry)) [] ≡ Calls.openReply settings end (tick .0) (lent zeroState (now (ledger .entry)) (now (base .entry)) (now (side .entry)) (now (buffer .entry)) (now (kinds .entry))) ⌝ }
+{
+    let number = tests::opens(settings, end, tick.0, ledger, base, side, buffer, kinds);
+    if number != 0 {
+        return Answer::refused(number, State::zero());
+    }
+    octets::clear(ledger, 0, settings.ledger_length());
+    encode::write_empty(side, settings, tick, end);
+    Answer::accepted(State::first(settings, end, tick))
+}
+
+// The bytes of a page at an offset, as many as `into` has room for. 3, 2, 4, 5, 6 or 0.
+pub fn read(
+    state: State,
+    ledger: &[u8],
+    base: &[u8],
+    side: &[u8],
+    buffer: &mut [u8],
+    kinds: &[u8],
+    page: Page,
+    offset: u32,
+    into: &mut [u8],
+) -> Answer
+    ensures { λ r. ⌜ answered r (now (ledger .entry)) (now (base .entry)) (now (side .entry)) (now (buffer .exit)) (now (kinds .entry)) (now (into .exit)) ≡ Calls.readReply (page .0) offset (now (into .entry)) (lent state (now (ledger .entry)) (now (base .entry)) (now (side .entry)) (now (buffer .entry)) (now (kinds .entry))) ⌝ }
+{
+    let n = into.len();
+    let number = tests::accesses(state, ledger, base, side, buffer, kinds, page, offset, n);
+    if number != 0 {
+        return Answer::refused(number, state);
+    }
+    let size = wide(state.settings.size);
+    let in_base = wide(page.0) * size + wide(offset);
+    if kinds[wide(page.0)] != METADATA {
+        octets::copy(base, in_base, into, 0, n);
+        return Answer::accepted(state.raw_bypass());
+    }
+    let used = buffer::bring_in(state, ledger, base, buffer, page);
+    if used.found {
+        octets::copy(buffer, used.slot * size + wide(offset), into, 0, n);
+        let after = used.state;
+        return Answer::accepted(after);
+    }
+    octets::copy(base, in_base, into, 0, n);
+    Answer::accepted(state.meta_bypass())
+}
+
+// The bytes laid over a page at an offset. 3, 2, 4, 5, 6, 7 or 0.
+pub fn write(
+    state: State,
+    ledger: &[u8],
+    base: &mut [u8],
+    side: &[u8],
+    buffer: &mut [u8],
+    kinds: &[u8],
+    page: Page,
+    offset: u32,
+    bytes: &[u8],
+) -> Answer
+    ensures { λ r. ⌜ answered r (now (ledger .entry)) (now (base .exit)) (now (side .entry)) (now (buffer .exit)) (now (kinds .entry)) (now (bytes .entry)) ≡ Calls.writeReply (page .0) offset (now (bytes .entry)) (lent state (now (ledger .entry)) (now (base .entry)) (now (side .entry)) (now (buffer .entry)) (now (kinds .entry))) ⌝ }
+{
+    let n = bytes.len();
+    let number = tests::accesses(state, ledger, base, side, buffer, kinds, page, offset, n);
+    if number != 0 {
+        return Answer::refused(number, state);
+    }
+    let size = wide(state.settings.size);
+    if kinds[wide(page.0)] != METADATA {
+        octets::copy(bytes, 0, base, wide(page.0) * size + wide(offset), n);
+        return Answer::accepted(state.raw_bypass());
+    }
+    let used = buffer::bring_in(state, ledger, base, buffer, page);
+    if !used.found {
+        return Answer::refused(refusal::NO_SLOT, state);
+    }
+    octets::copy(bytes, 0, buffer, used.slot * size + wide(offset), n);
+    let after = used.state;
+    let table = after.slots;
+    Answer::accepted(State {
+        slots: table.mark(used.slot),
+        ..after
+    })
+}
+
+// One zero page more, of the named kind. 3, 2, 5, 8, 7 or 0.
+pub fn grow(
+    state: State,
+    ledger: &[u8],
+    base: &mut [u8],
+    side: &[u8],
+    buffer: &mut [u8],
+    kinds: &mut [u8],
+    kind: u32,
+) -> Answer
+    ensures { λ r. ⌜ answered r (now (ledger .entry)) (now (base .exit)) (now (side .entry)) (now (buffer .exit)) (now (kinds .exit)) [] ≡ Calls.growReply kind (lent state (now (ledger .entry)) (now (base .entry)) (now (side .entry)) (now (buffer .entry)) (now (kinds .entry))) ⌝ }
+{
+    let number = tests::grows(state, ledger, base, side, buffer, kinds, kind);
+    if number != 0 {
+        return Answer::refused(number, state);
+    }
+    let size = wide(state.settings.size);
+    let end = wide(state.end);
+    if kind != 0 {
+        octets::clear(base, end * size, size);
+        kinds[end] = RAW;
+        return Answer::accepted(state.grown());
+    }
+    let seat = buffer::seat_for(state, ledger, Page(state.end));
+    if !seat.found {
+        return Answer::refused(refusal::NO_SLOT, state);
+    }
+    octets::clear(buffer, seat.slot * size, size);
+    kinds[end] = METADATA;
+    let table = seat.table;
+    let counts = state.meta;
+    let grown = state.grown();
+    Answer::accepted(State {
+        slots: table.mark(seat.slot),
+        meta: counts.eviction(seat.evicts),
+        ..grown
+    })
+}
