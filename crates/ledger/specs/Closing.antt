@@ -281,16 +281,20 @@ module _ (c : Closing) where
       new : (e : Entry) → IsNew c e → (e .entered .0 ≤ e .changed .0) × (e .changed .0 ≤ now c .0)
       new e n = rw (n .went) (came-from (λ k. k .0 ≤ now c .0) e n (omega arith) (every-map (λ y h z. omega arith) (c .old) old), omega arith)
 
-  -- their numbers have 32 bits
-  pub small-later : now c .0 ≤ top → c .end ≤ top → places (c .settings) ≤ top → ((p : ℕ) → c .sum p ≤ top) → Every Small (c .old) → Every Small (laterOf c)
-  small-later t e m s old = every-later new old
-    where
-      new : (x : Entry) → IsNew c x → Small x
-      new x n =
-          record {
-            page = omega (arith, n .page-below);
-            place = omega (arith, n .place-below);
-            changed = rw (n .went) (omega arith);
-            sum = rw (n .summed) (omega (arith, s (pageOf x)));
-            entered = came-from (λ k. k .0 < 4294967296) x n (omega arith) (every-map (λ y h z. h .entered) (c .old) old);
-          }
+  -- the numbers of new entries have 32 bits, and so those of all of them
+  module _ (t : now c .0 ≤ top) (e : c .end ≤ top) (m : places (c .settings) ≤ top) (s : (p : ℕ) → c .sum p ≤ top) (old : Every Small (c .old)) where
+    is-small : (x : Entry) → IsNew c x → Small x
+    is-small x n =
+        record {
+          page = omega (arith, n .page-below);
+          place = omega (arith, n .place-below);
+          changed = rw (n .went) (omega arith);
+          sum = rw (n .summed) (omega (arith, s (pageOf x)));
+          entered = came-from (λ k. k .0 < 4294967296) x n (omega arith) (every-map (λ y h z. h .entered) (c .old) old);
+        }
+
+    pub small-new : Every Small (newOf c)
+    small-new = every-map is-small (newOf c) new-facts
+
+    pub small-later : Every Small (laterOf c)
+    small-later = every-later is-small old

@@ -35,7 +35,7 @@ pub record Stands (w : World) : Type 0 where
   pub ruled : rules w ≡ true
   pub long : Lengths (w .state .settings) w
 
-stands-facts : (w : World) → passes (standing w) ≡ true → Stands w
+pub stands-facts : (w : World) → passes (standing w) ≡ true → Stands w
 unfolding standing passes
 stands-facts w h =
     let x = both (rules w) (longEnough (w .state .settings) w && (kindRules w && true)) h in

@@ -20,7 +20,7 @@ use Rattle.slots.specs.Table.{toPage, slotOf, unmarked}
 use Rattle.slots.specs.declared.Slots.{Slots}
 use Rattle.ledger.specs.Changed.{numbersOf}
 use Rattle.ledger.specs.Closes.{fresh-arrays, later-in, renewed-later, renews, due-now}
-use Rattle.ledger.specs.Closing.{IsNew, newOf, new-facts, every-later, came-from, small-later, length-fresh}
+use Rattle.ledger.specs.Closing.{newOf, every-later, small-new, small-later, length-fresh}
 use Rattle.ledger.specs.Entries.{pageOf}
 use Rattle.ledger.specs.Laid.{layEach}
 use Rattle.ledger.specs.Renewed.{freshAt, freshOf, laterIn, renewed, Renews}
@@ -133,26 +133,14 @@ module _ {w : World} {p : Plan} {N : Tick} {sums : List ℕ} (m : Summed w p N s
   unfolding entriesOf
   smalls = small-entriesIn (w .state .entries) (w .ledger) (m .octets)
 
-  small-made : Every Small (newOf (closingOf w))
-  small-made = every-map new (newOf (closingOf w)) (new-facts (closingOf w))
-    where
-      new : (x : Entry) → IsNew (closingOf w) x → Small x
-      new x n =
-          record {
-            page = omega (arith, n .page-below, end-small k);
-            place = omega (arith, n .place-below, places-small k);
-            changed = rw (n .went) (omega (arith, k .low));
-            sum = rw (n .summed) (omega (arith, sums-small k (pageOf x)));
-            entered = came-from (closingOf w) (λ t. t .0 < 4294967296) x n (omega (arith, k .low)) (every-map (λ y h z. h .entered) (entriesOf w) smalls);
-          }
-
   -- the ledger can be renewed
   pub can-renew : Renews (w .state .settings) (w .ledger) (w .state .entries) (p .going) (freshOf N (freshFor p sums)) (p .count)
   unfolding entriesOf
   can-renew =
       rw fresh-made
       (renews (closingOf w) (w .state .entries) refl (p .going) (k .planned .gone) (limited k) (facts k .ledger-long) (facts k .counted) (facts k .ascends)
-      (every-map (λ e f. f .place-below) (entriesOf w) (facts k .each)) (p .count) (k .planned .most) made-count (rw (← after-later w) (room k .1)) small-made)
+      (every-map (λ e f. f .place-below) (entriesOf w) (facts k .each)) (p .count) (k .planned .most) made-count (rw (← after-later w) (room k .1))
+      (small-new (closingOf w) (omega (arith, k .low)) (end-small k) (places-small k) (sums-small k) smalls))
 
   images-made : imagesLaid (held w) (p .pages) (p .places) (p .count) (w .side) ≡ imaged w
   unfolding imagesLaid freshOf freshAt

@@ -1,28 +1,29 @@
 -- What a close answers, by the verdict on its tests and by its plan. Assumes nothing.
 use Prim.Native.Nat.{ℕ, _<_}
 use mathlib.Core.Path.{_≡_, refl, _∙_, sym, ap}
-use mathlib.Core.Bool.{true, false, _&&_}
+use mathlib.Core.Bool.{true, false}
 use mathlib.Core.List.{List, [], _∷_, _++_, append-assoc}
 use native.Mathlib.Omega.{arith}
 use lib.Dec.{ltb}
 use borrow.Author.Tests.{ltb-true}
-use Rattle.lists.specs.Bools.{both, false-of}
+use Rattle.lists.specs.Bools.{both}
 use Rattle.lists.specs.Scans.{allOf}
 use Rattle.units.specs.Refusals as Refusals
 use Rattle.units.specs.Sizes.{top, sideLength, baseLength, bufferLength}
-use Rattle.units.specs.Tests.{Test, passes, verdict, tested, passes-both, tested-fails, tested-append, tested-behind, verdict-passes}
+use Rattle.units.specs.Tests.{Test, passes, verdict, tested, passes-both, tested-append, tested-behind}
 use Rattle.sidefile.specs.Passed.{verdict-none}
 use Rattle.recorder.specs.Carried.{Carries}
 use Rattle.recorder.specs.Close.{openTick, closed, suffices, closeTests, closeReply}
-use Rattle.recorder.specs.Facts.{Lengths, long-facts}
 use Rattle.recorder.specs.Outcome.{lent}
 use Rattle.recorder.specs.Planned.{Planned}
-use Rattle.recorder.specs.Rules.{rules, longEnough, kindRules, standing}
+use Rattle.recorder.specs.Rules.{rules, standing}
 use Rattle.recorder.specs.Tests.{lastTick}
 use Rattle.recorder.specs.World.{World, refuse, accept, slotFor}
 use Rattle.recorder.specs.declared.State.{State}
 use Rattle.recorder.specs.declared.plan.Plan.{Plan}
+use Rattle.recorder.proofs.Accepted.{Stands, stands-facts}
 use Rattle.recorder.proofs.Planning.{same-suffices, planned-in}
+use Rattle.recorder.proofs.Replied.{refused-by}
 
 module _ (w : World) where
   -- the tests before 10
@@ -38,10 +39,8 @@ module _ (w : World) where
 
   pub close-refused : (n : ℕ) → n ≡ verdict early → (n ≡ 0 → ⊥) → refuse w [] n ≡ closeReply w
   close-refused n e ne =
-      sym (in-parts
-      ∙ tested-append (refuse w []) (accept (closed w) []) early last
-      ∙ tested-fails (refuse w []) (tested last (refuse w []) (accept (closed w) [])) early (false-of (passes early) (λ p. ne (e ∙ verdict-passes early p)))
-      ∙ ap (refuse w []) (sym e))
+      refused-by (refuse w []) (tested last (refuse w []) (accept (closed w) [])) early n e ne
+      ∙ sym (in-parts ∙ tested-append (refuse w []) (accept (closed w) []) early last)
 
   pub close-passes : (n : ℕ) → n ≡ verdict early → n ≡ 0 → passes early ≡ true
   unfolding standing lastTick allOf
@@ -56,13 +55,12 @@ module _ (w : World) where
     unfolding tested
     close-done s = sym (in-parts ∙ tested-behind (refuse w []) (accept (closed w) []) early last g ∙ rw s)
 
-    pub close-ruled : (rules w ≡ true) × Lengths (w .state .settings) w × (w .state .closed .0 < top)
-    unfolding standing lastTick passes
-    close-ruled =
-        let p = passes-both (standing w) (lastTick w) g in
-        let x = both (rules w) (longEnough (w .state .settings) w && (kindRules w && true)) (p .0) in
-        let y = both (longEnough (w .state .settings) w) (kindRules w && true) (x .1) in
-        (x .0, long-facts (w .state .settings) w (y .0), ltb-true (w .state .closed .0) top (both (ltb (w .state .closed .0) top) true (p .1) .0))
+    pub close-stands : Stands w
+    close-stands = stands-facts w (passes-both (standing w) (lastTick w) g .0)
+
+    pub close-low : w .state .closed .0 < top
+    unfolding lastTick passes
+    close-low = ltb-true (w .state .closed .0) top (both (ltb (w .state .closed .0) top) true (passes-both (standing w) (lastTick w) g .1) .0)
 
 -- the plan, which looks at the state and the ledger alone
 module _ (s : State) (ledger base side buffer kinds : List ℕ) where
@@ -79,13 +77,13 @@ module _ (s : State) (ledger base side buffer kinds : List ℕ) where
   pub can-carry : passes (early whole) ≡ true → (p : Plan) → Planned (lent s ledger [] [] [] []) p → p .enough ≡ true → (k : List ℕ) → Carries (lent s ledger base side buffer k) p (openTick whole)
   unfolding rules slotFor baseLength sideLength bufferLength
   can-carry g p q e k =
-      let r = close-ruled whole g in
+      let r = close-stands whole g in
       record {
-        ruled = r .0;
-        base-long = omega (arith, r .1 .base-long);
-        side-long = r .1 .side-long;
-        buffer-long = omega (arith, r .1 .buffer-long);
-        low = r .2;
+        ruled = r .ruled;
+        base-long = omega (arith, r .long .base-long);
+        side-long = r .long .side-long;
+        buffer-long = omega (arith, r .long .buffer-long);
+        low = close-low whole g;
         ticked = refl;
         enough = e;
         planned = planned-in s ledger base side buffer k p q;

@@ -44,7 +44,14 @@ fn carry_out(
         entered,
         count: plan.count,
     };
-    let n = renewal::renew(ledger, state.settings, wide(state.entries), going, fresh, tick);
+    let n = renewal::renew(
+        ledger,
+        state.settings,
+        wide(state.entries),
+        going,
+        fresh,
+        tick,
+    );
     stores::write_due(state, ledger, n, buffer, base, tick);
     front::write_front(ledger, state.settings, n, tick, state.end, side);
     let table = state.slots;

@@ -7,7 +7,7 @@ use borrow.Author.Tests.{not-true, not-false}
 use Rattle.units.specs.Tests.{passes}
 use Rattle.recorder.specs.Outcome.{lent}
 use Rattle.recorder.specs.World.{World, accept}
-use Rattle.recorder.proofs.Ending.{early, close-refused, close-passes, close-short, close-done, close-ruled, rules-alone, told, can-carry}
+use Rattle.recorder.proofs.Ending.{early, close-refused, close-passes, close-short, close-done, close-stands, close-low, rules-alone, told, can-carry}
 use Rattle.recorder.proofs.close.close.Statement.{statement}
 use Rattle.recorder.proofs.close.close.Tie as tie
 
@@ -36,12 +36,12 @@ returns : tie.Need-returns
 returns c = close-refused (world (c .before .before .before .before .before .before .before .before .before .before)) (c .before .closes .result) (c .before .closes .ensures) (c .if1 .taken)
 
 add-t18 : tie.Need-add-t18
-add-t18 c = omega (arith, close-ruled (world (start (c .before))) (passed (c .before)) .2)
+add-t18 c = omega (arith, close-low (world (start (c .before))) (passed (c .before)))
 
 of-close-requires : tie.Need-of-close-requires
 of-close-requires c κs =
     let a = start (c .before .before) .args in
-    (rules-alone (a .state) (a .ledger .now) (a .base .now) (a .side .now) (a .buffer .now) (a .kinds .now) (close-ruled (world (start (c .before .before))) (passed (c .before .before)) .0), refl)
+    (rules-alone (a .state) (a .ledger .now) (a .base .now) (a .side .now) (a .buffer .now) (a .kinds .now) (close-stands (world (start (c .before .before))) (passed (c .before .before)) .ruled), refl)
 
 same-length-4 : tie.Need-same-length-4
 same-length-4 c = search needs
