@@ -1,5 +1,8 @@
 // The C boundary: what libungletice.a exports, over plain numbers and byte slices (a pointer, then a length).
 // Thin: each export calls the function of the crate that has it, and its contract is that function's. None has a requires.
+pub mod fields;
+pub mod lengths;
+pub mod recording;
 pub mod viewer;
 
 ghost use mathlib.Core.Path.{_≡_};

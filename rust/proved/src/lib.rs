@@ -1,137 +1,22 @@
 //! Safe functions over the proved layer: each calls a C function of the static library that `rt staticlib cabi` writes.
-//! c/ungletice.h declares the same functions for C.
+//! c/ungletice.h declares the same functions and structs for C, and says what they do.
+
+mod desk;
+mod recorder;
+
+pub use desk::{desk_read, read_number, refresh, take, Read};
+pub use recorder::{
+    base_length, buffer_length, close, closed_tick, end, entries, grow, held_length, ledger_length,
+    metadata_counts, open, raw_counts, read, settings_of, side_length, write, Answer, Counts,
+    Settings, Slots, State,
+};
 
 extern "C" {
     fn ungletice_lookup3(bytes: *const u8, length: usize, start: u32) -> u32;
-    fn ungletice_take(
-        side: *const u8,
-        side_length: usize,
-        held: *mut u8,
-        held_length: usize,
-    ) -> u32;
-    fn ungletice_refresh(
-        side: *const u8,
-        side_length: usize,
-        held: *mut u8,
-        held_length: usize,
-        marks: *mut u8,
-        marks_length: usize,
-    ) -> u32;
-    fn ungletice_read(
-        side: *const u8,
-        side_length: usize,
-        base: *const u8,
-        base_length: usize,
-        held: *const u8,
-        held_length: usize,
-        page: u32,
-        offset: u32,
-        length: u32,
-    ) -> u32;
-    fn ungletice_read_source(
-        side: *const u8,
-        side_length: usize,
-        base: *const u8,
-        base_length: usize,
-        held: *const u8,
-        held_length: usize,
-        page: u32,
-        offset: u32,
-        length: u32,
-    ) -> u32;
-    fn ungletice_read_offset(
-        side: *const u8,
-        side_length: usize,
-        base: *const u8,
-        base_length: usize,
-        held: *const u8,
-        held_length: usize,
-        page: u32,
-        offset: u32,
-        length: u32,
-    ) -> usize;
 }
 
 /// Bob Jenkins' lookup3 `hashlittle` of the bytes.
 pub fn hashlittle(bytes: &[u8], start: u32) -> u32 {
     // SAFETY: the function reads `length` bytes at the pointer and writes none, and keeps neither.
     unsafe { ungletice_lookup3(bytes.as_ptr(), bytes.len(), start) }
-}
-
-/// Takes header and index of a side file into the held buffer.
-pub fn take(side: &[u8], held: &mut [u8]) -> u32 {
-    // SAFETY: each slice goes as its pointer and length; Rust's rules keep them apart, and the call keeps none.
-    unsafe { ungletice_take(side.as_ptr(), side.len(), held.as_mut_ptr(), held.len()) }
-}
-
-/// Takes them anew, and marks the pages that changed after the held tick.
-pub fn refresh(side: &[u8], held: &mut [u8], marks: &mut [u8]) -> u32 {
-    // SAFETY: as for take.
-    unsafe {
-        ungletice_refresh(
-            side.as_ptr(),
-            side.len(),
-            held.as_mut_ptr(),
-            held.len(),
-            marks.as_mut_ptr(),
-            marks.len(),
-        )
-    }
-}
-
-/// What the desk's read and its two companions answer: the number, the slice (0 base, 1 side) and the offset in it.
-pub struct Read {
-    pub number: u32,
-    pub source: u32,
-    pub offset: usize,
-}
-
-/// The number alone, as a desk that has read the page before asks for it.
-pub fn read_number(
-    side: &[u8],
-    base: &[u8],
-    held: &[u8],
-    page: u32,
-    offset: u32,
-    length: u32,
-) -> u32 {
-    // SAFETY: the function reads inside the slices and writes nothing.
-    unsafe {
-        ungletice_read(
-            side.as_ptr(),
-            side.len(),
-            base.as_ptr(),
-            base.len(),
-            held.as_ptr(),
-            held.len(),
-            page,
-            offset,
-            length,
-        )
-    }
-}
-
-/// The read whole, as a desk that shows the page asks for it.
-pub fn desk_read(
-    side: &[u8],
-    base: &[u8],
-    held: &[u8],
-    page: u32,
-    offset: u32,
-    length: u32,
-) -> Read {
-    let (s, b, h) = (side.as_ptr(), base.as_ptr(), held.as_ptr());
-    let (sl, bl, hl) = (side.len(), base.len(), held.len());
-    // SAFETY: as for read_number.
-    let (source, offset_in) = unsafe {
-        (
-            ungletice_read_source(s, sl, b, bl, h, hl, page, offset, length),
-            ungletice_read_offset(s, sl, b, bl, h, hl, page, offset, length),
-        )
-    };
-    Read {
-        number: read_number(side, base, held, page, offset, length),
-        source,
-        offset: offset_in,
-    }
 }

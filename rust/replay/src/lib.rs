@@ -2,12 +2,13 @@
 //! every call left behind, make up new ones from a seed, and say which situations a set of them
 //! reached.
 //!
-//! `script` and `state_line` read; `run` plays on a `version`; `output` prints. `judge` says from
+//! `script` and `state_line` read; `run` plays on a `version`; `output` prints, and `compare` plays on two. `judge` says from
 //! document 01 alone why a call must be refused; `coverage` stands on it, and `generate` aims by
 //! it.
 
 pub mod buffers;
 pub mod command;
+pub mod compare;
 pub mod coverage;
 pub mod crc;
 pub mod fields;

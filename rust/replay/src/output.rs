@@ -44,7 +44,7 @@ pub fn replay(version: Version, text: &str, out: &mut dyn Write) -> Result<(), S
 
 /// The output line of a call, without its line feed.
 pub fn output_line(number: usize, call: &Call, reply: &Reply, after: &World) -> String {
-    let Reply { number: answer, handed } = reply;
+    let Reply { number: answer, handed, .. } = reply;
     let handed = match handed {
         Handed::Nothing => String::new(),
         Handed::Dest(dest) => format!(" dest={:08x}", crc32(dest)),

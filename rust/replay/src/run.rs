@@ -23,6 +23,8 @@ pub struct World {
 #[derive(Clone, Debug, PartialEq, Eq)]
 pub struct Reply {
     pub number: u32,
+    /// The state that a recorder's call answered, refused or not; none from the desk, or where no call was made.
+    pub state: Option<State>,
     pub handed: Handed,
 }
 
@@ -69,54 +71,54 @@ impl Machine {
     /// Makes one call.
     pub fn call(&mut self, call: &Call) -> Reply {
         match *call {
-            Call::Open { settings, end, tick } => plain_reply(self.open(settings, end, tick)),
+            Call::Open { settings, end, tick } => reply(self.open(settings, end, tick)),
             Call::Read { page, offset, length } => {
                 let mut dest = vec![UNREAD; length];
-                let number = self.with_state(|recorder, state, lent| {
+                let answer = self.with_state(|recorder, state, lent| {
                     recorder.read(state, lent, page, offset, &mut dest)
                 });
-                Reply { number, handed: Handed::Dest(dest) }
+                Reply { handed: Handed::Dest(dest), ..reply(answer) }
             }
             Call::Write { page, offset, ref data } => {
-                plain_reply(self.with_state(|recorder, state, lent| {
+                reply(self.with_state(|recorder, state, lent| {
                     recorder.write(state, lent, page, offset, data)
                 }))
             }
-            Call::Grow { kind } => plain_reply(
-                self.with_state(|recorder, state, lent| recorder.grow(state, lent, kind)),
-            ),
-            Call::Close => {
-                plain_reply(self.with_state(|recorder, state, lent| recorder.close(state, lent)))
+            Call::Grow { kind } => {
+                reply(self.with_state(|recorder, state, lent| recorder.grow(state, lent, kind)))
             }
-            Call::Take => plain_reply(self.take()),
-            Call::Refresh => plain_reply(self.refresh()),
+            Call::Close => {
+                reply(self.with_state(|recorder, state, lent| recorder.close(state, lent)))
+            }
+            Call::Take => desk_reply(self.take()),
+            Call::Refresh => desk_reply(self.refresh()),
             Call::DeskRead { page, offset, length } => self.desk_read(page, offset, length),
         }
     }
 
     /// A refused open keeps the state there was.
-    fn open(&mut self, settings: Settings, end: u32, tick: u32) -> u32 {
+    fn open(&mut self, settings: Settings, end: u32, tick: u32) -> Option<Answer> {
         let (_, lent) = &mut lend(&mut self.world);
         let answer = self.version.recorder.open(settings, end, tick, lent);
         if answer.number == 0 {
             self.world.recorder.opened(answer.state);
         }
-        answer.number
+        Some(answer)
     }
 
     /// The other recorder calls hand a state back also where they refuse; it is taken over as it
-    /// comes, so that a refusal which changes it shows.
+    /// comes, so that a refusal which changes it shows. No call is made with a state that struct and ledger cannot hold.
     fn with_state(
         &mut self,
         call: impl FnOnce(&dyn RecorderCalls, State, &mut Lent) -> Answer,
-    ) -> u32 {
+    ) -> Option<Answer> {
         if !self.world.recorder.is_expressible() {
-            return BROKEN_STATE;
+            return None;
         }
         let (state, mut lent) = lend(&mut self.world);
         let answer = call(self.version.recorder, state, &mut lent);
         self.world.recorder.answered(answer.state);
-        answer.number
+        Some(answer)
     }
 
     fn take(&mut self) -> u32 {
@@ -138,12 +140,18 @@ impl Machine {
             offset: found.offset,
             bytes: found.bytes.to_vec(),
         };
-        Reply { number: found.number, handed }
+        Reply { handed, ..desk_reply(found.number) }
     }
 }
 
-fn plain_reply(number: u32) -> Reply {
-    Reply { number, handed: Handed::Nothing }
+/// The reply of a recorder's call, if it was made.
+fn reply(answer: Option<Answer>) -> Reply {
+    let number = answer.map_or(BROKEN_STATE, |answer| answer.number);
+    Reply { number, state: answer.map(|answer| answer.state), handed: Handed::Nothing }
+}
+
+fn desk_reply(number: u32) -> Reply {
+    Reply { number, state: None, handed: Handed::Nothing }
 }
 
 /// The state by value and everything that is lent to a recorder call.

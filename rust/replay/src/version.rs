@@ -44,12 +44,11 @@ pub struct Version {
     pub desk: &'static dyn DeskCalls,
 }
 
-/// The version that a word after `--on` names; a line that says why there is none. The proved recorder does not stand
-/// behind the C boundary yet, so `proved` plays those calls on the plain one, and what it tells is the desk's.
+/// The version that a word after `--on` names; a line that says why there is none.
 pub fn named(word: &str) -> Result<Version, String> {
     match word {
         "plain" => Ok(Version { recorder: &Plain, desk: &Plain }),
-        "proved" => Ok(Version { recorder: &Plain, desk: &Proved }),
+        "proved" => Ok(Version { recorder: &Proved, desk: &Proved }),
         _ => Err(format!("no version is named '{word}'")),
     }
 }

@@ -79,6 +79,13 @@ fn words_that_are_not_understood() {
     assert_error(&replay(&["--generate", "one", "2"]), "'one' is no seed");
     assert_error(&replay(&["--on", "paper", "-"]), "no version is named 'paper'");
     assert_error(&replay(&["--coverage"]), "--help");
+    assert_error(&replay(&["--compare"]), "--help");
+    assert_error(&replay(&["--compare", "--generate", "1"]), "--help");
+    assert_error(
+        &replay(&["--compare", "--generate", "1", "many"]),
+        "'many' is no number of calls",
+    );
+    assert_error(&replay(&["--compare", "no such file"]), "no such file");
     assert_error(&replay(&["no such file"]), "no such file");
     assert!(text(&replay(&["--help"]).stdout).starts_with("usage: replay"));
 }
@@ -91,4 +98,26 @@ fn a_script_and_its_coverage() {
     let report = replay_text(&["--coverage", "-"], &text(&script.stdout));
     assert_eq!(report.status.code(), Some(1), "200 calls cannot reach everything");
     assert!(text(&report.stdout).contains(" reached\nmissing: "));
+}
+
+#[test]
+fn a_comparison_names_its_scripts() {
+    let scripts = [file("example.script"), file("row-h.script")];
+    let words: Vec<&str> =
+        std::iter::once("--compare").chain(scripts.iter().map(String::as_str)).collect();
+    let output = replay(&words);
+    let printed = text(&output.stdout);
+    assert_eq!(output.status.code(), Some(0), "{printed}");
+    let lines: Vec<&str> = printed.lines().collect();
+    assert_eq!(lines.len(), 2);
+    for (line, script) in lines.iter().zip(&scripts) {
+        assert!(
+            line.starts_with(script.as_str()) && line.ends_with(" calls, no difference"),
+            "{line}"
+        );
+    }
+    let output = replay(&["--compare", "--generate", "3", "50"]);
+    assert_eq!(output.status.code(), Some(0));
+    assert_eq!(text(&output.stdout), "seed 3: 50 calls, no difference\n");
+    assert_error(&replay_text(&["--compare", "-"], "close\nopen\n"), "line 2: ");
 }

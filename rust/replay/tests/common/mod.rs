@@ -12,6 +12,14 @@ pub fn plain() -> Version {
     version::named("plain").expect("the plain version")
 }
 
+pub fn proved() -> Version {
+    version::named("proved").expect("the proved version")
+}
+
+pub fn both() -> [Version; 2] {
+    [plain(), proved()]
+}
+
 pub fn scripts_folder() -> PathBuf {
     [env!("CARGO_MANIFEST_DIR"), "scripts"].iter().collect()
 }
