@@ -1,40 +1,124 @@
-# make demo    the main job
-# make test    every proof, must-fail edit and test; the last line is 'N passed, 0 failed'
-# make bench   the measurements, as ratios
-# make mutants wrong definitions, each of which a proof must refuse
+# make          the library (build/lib, build/include) and the programs (build/bin)
+# make demo     the main job: a recorder and a desk on real files, while a pull trial goes on
+# make test     every proof, must-fail edit and test; the last line is 'N passed, 0 failed'
+# make install  library, header, pkg-config file, programs and man pages: PREFIX (/usr/local), DESTDIR
+# make bench    the measurements, as ratios
+# make mutants  wrong definitions, each of which a proof must refuse
+# make trial    the stored pages of the demo's trial anew (needs HDF5)
 
 CC ?= cc
 CFLAGS ?= -O2
 WARN = -std=c11 -Wall -Wextra -Werror
+INCLUDE = -Ic -Ic/programs -Ic/demo
 LIBS = target/staticlib/libcabi.a
+HEADERS = $(wildcard c/*.h c/*/*.h)
+SOURCES = $(wildcard crates/*/src/*.rt)
 TESTS = $(patsubst c/test/%.c,build/c/%,$(wildcard c/test/test_*.c))
+COMPILE = $(CC) $(CFLAGS) $(WARN) $(INCLUDE) $(filter %.c,$^)
 
-.PHONY: demo test bench mutants c-tests clean
+PREFIX ?= /usr/local
+DESTDIR ?=
+VERSION = $(shell awk '/define UNGLETICE_VERSION_(MAJOR|MINOR)/ { printf "%s%s", dot, $$3; dot = "." }' c/ungletice.h)
+TO = $(DESTDIR)$(PREFIX)
 
-# Proves and builds all there is, and shows what the checksum gives for the published vectors.
-demo:
-	rt check
-	@echo
-	@target/bin/vectors
+.PHONY: all lib programs demo trial trial-maker test install bench mutants c-tests clean FORCE
+
+all: lib programs
+
+# The library, the header and the pkg-config file, laid out as they are installed.
+
+lib: build/lib/libungletice.a build/include/ungletice.h build/lib/pkgconfig/ungletice.pc
+
+build/lib/libungletice.a: $(LIBS)
+	@mkdir -p $(@D)
+	cp $< $@
+
+build/include/ungletice.h: c/ungletice.h
+	@mkdir -p $(@D)
+	cp $< $@
+
+# Made anew each time, since PREFIX may be another.
+build/lib/pkgconfig/ungletice.pc: ungletice.pc.in c/ungletice.h FORCE
+	@mkdir -p $(@D)
+	@sed -e 's|@PREFIX@|$(PREFIX)|' -e 's|@VERSION@|$(VERSION)|' $< >$@
+
+FORCE:
+
+target/staticlib/lib%.a: $(SOURCES)
+	rt staticlib $*
+
+# The programs.
+
+programs: build/bin/sidelist build/bin/deskwatch
+
+target/bin/sidelist: $(SOURCES)
+	rt check sidelist
+
+build/bin/sidelist: target/bin/sidelist
+	@mkdir -p $(@D)
+	cp $< $@
+
+build/bin/deskwatch: c/programs/deskwatch.c c/programs/lent.c $(HEADERS) $(LIBS)
+	@mkdir -p $(@D)
+	$(COMPILE) $(LIBS) $(LDLIBS) -o $@
+
+install: all
+	install -d $(TO)/lib/pkgconfig $(TO)/include $(TO)/bin $(TO)/share/man/man1 $(TO)/share/man/man3
+	install -m 644 build/lib/libungletice.a $(TO)/lib
+	install -m 644 build/include/ungletice.h $(TO)/include
+	install -m 644 build/lib/pkgconfig/ungletice.pc $(TO)/lib/pkgconfig
+	install -m 755 build/bin/sidelist build/bin/deskwatch $(TO)/bin
+	install -m 644 man/sidelist.1 man/deskwatch.1 $(TO)/share/man/man1
+	install -m 644 man/ungletice.3 $(TO)/share/man/man3
+
+# The demo. The trial maker is built where the stock HDF5 library is; without it the stored pages are played.
+
+DEMO = build/demo/recorder build/demo/desk build/demo/image
+HDF5 = $$(pkg-config --cflags --libs hdf5 2>/dev/null || echo -lhdf5)
+
+demo: $(DEMO) build/bin/deskwatch trial-maker
+	@c/demo/demo.sh build/demo build/demo/files
+
+$(DEMO): build/demo/%: c/demo/%.c c/demo/sequence.c c/demo/recording.c c/demo/view.c c/programs/lent.c $(HEADERS) $(LIBS)
+	@mkdir -p $(@D)
+	$(COMPILE) $(LIBS) $(LDLIBS) -o $@
+
+trial-maker:
+	@mkdir -p build/demo
+	@if echo '#include <hdf5.h>' | $(CC) -E -x c - $(HDF5) >/dev/null 2>&1; then \
+	    $(MAKE) --no-print-directory build/demo/trial_maker >build/demo/trial_maker.log 2>&1 || \
+	    echo "demo: the trial maker does not build with this HDF5: see build/demo/trial_maker.log"; \
+	else rm -f build/demo/trial_maker; fi
+
+build/demo/trial_maker: c/demo/trial_maker.c
+	@mkdir -p $(@D)
+	$(COMPILE) $(HDF5) -o $@
+
+trial: build/demo/trial_maker
+	@mkdir -p build/demo/made
+	build/demo/trial_maker build/demo/made
+	cp build/demo/made/trial.pages c/demo/trial.pages
+
+# The tests and the measurements.
 
 test:
 	@.ci/test
 
-c-tests: $(TESTS)
+# What c/test/*.sh call is built with them.
+c-tests: $(TESTS) $(DEMO) build/bin/deskwatch
 
-build/c/test_%: c/test/test_%.c c/ungletice.h $(LIBS)
-	@mkdir -p build/c
-	$(CC) $(CFLAGS) $(WARN) -Ic $< $(LIBS) -o $@
+build/c/test_trial: c/demo/sequence.c c/demo/recording.c c/demo/view.c c/programs/lent.c
 
-target/staticlib/lib%.a: $(wildcard crates/*/src/*.rt)
-	rt staticlib $*
+build/c/test_%: c/test/test_%.c $(HEADERS) $(LIBS)
+	@mkdir -p $(@D)
+	$(COMPILE) $(LIBS) $(LDLIBS) -o $@
 
 build/bench/lookup3: c/bench/bench_lookup3.c c/bench/hashlittle.c target/staticlib/libcabi.a
-	@mkdir -p build/bench
+	@mkdir -p $(@D)
 	$(CC) -O3 $(WARN) $^ -o $@
 
 build/bench/copy: c/bench/bench_copy.c target/staticlib/libleaves.a
-	@mkdir -p build/bench
+	@mkdir -p $(@D)
 	$(CC) -O3 $(WARN) $^ -o $@
 
 bench: build/bench/lookup3 build/bench/copy
