@@ -3,6 +3,7 @@
 # make test     every proof, must-fail edit and test; the last line is 'N passed, 0 failed'
 # make install  library, header, pkg-config file, programs and man pages: PREFIX (/usr/local), DESTDIR
 # make bench    the measurements, as ratios
+# make soak     the proved and the plain version compared without end, or for SECONDS=N
 # make mutants  wrong definitions, each of which a proof must refuse
 # make trial    the stored pages of the demo's trial anew (needs HDF5)
 
@@ -21,7 +22,7 @@ DESTDIR ?=
 VERSION = $(shell awk '/define UNGLETICE_VERSION_(MAJOR|MINOR)/ { printf "%s%s", dot, $$3; dot = "." }' c/ungletice.h)
 TO = $(DESTDIR)$(PREFIX)
 
-.PHONY: all lib programs demo trial trial-maker test install bench mutants c-tests clean FORCE
+.PHONY: all lib programs demo trial trial-maker test install bench soak mutants c-tests clean FORCE
 
 all: lib programs
 
@@ -113,18 +114,18 @@ build/c/test_%: c/test/test_%.c $(HEADERS) $(LIBS)
 	@mkdir -p $(@D)
 	$(COMPILE) $(LIBS) $(LDLIBS) -o $@
 
-build/bench/lookup3: c/bench/bench_lookup3.c c/bench/hashlittle.c target/staticlib/libcabi.a
+build/bench/stack: c/bench/stack.c $(HEADERS) $(LIBS)
 	@mkdir -p $(@D)
-	$(CC) -O3 $(WARN) $^ -o $@
+	$(COMPILE) $(LIBS) $(LDLIBS) -o $@
 
-build/bench/copy: c/bench/bench_copy.c target/staticlib/libleaves.a
-	@mkdir -p $(@D)
-	$(CC) -O3 $(WARN) $^ -o $@
+# Prints the measurements, and puts them into docs/BENCH.md and docs/bench.svg. A stack that is too deep says so there.
+bench: build/bench/stack target/staticlib/libleaves.a
+	@build/bench/stack >build/bench/stack.txt || [ $$? -eq 1 ]
+	@cd rust && cargo run --offline --release --quiet --bin bench -- ../docs ../build/bench/stack.txt
 
-bench: build/bench/lookup3 build/bench/copy
-	@build/bench/lookup3
-	@build/bench/copy
-	@cd rust && cargo run --offline --release --quiet --bin bench
+# Both versions without end, or for SECONDS; Ctrl-C ends it with a summary.
+soak:
+	@tools/soak $(SECONDS)
 
 mutants:
 	@tools/mutants

@@ -1,4 +1,4 @@
-/* The baseline of bench_lookup3: Bob Jenkins' lookup3 `hashlittle` in plain C, written anew from his
+/* The baseline of the checksum (rust/bench): Bob Jenkins' lookup3 `hashlittle` in plain C, written anew from his
  * published algorithm (lookup3.c, May 2006, public domain). Words of 32 bits are loaded by memcpy, which a
  * compiler turns into one load; the machine must be little-endian. The tail is his: a switch on the number of
  * bytes left that adds only bytes of the key. */
