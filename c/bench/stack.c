@@ -1,7 +1,9 @@
 /* The deepest stack of each exported function. A call runs on a stack of its own that is filled with a pattern; what it used
- * is what differs afterwards, from the caller's frame down: the arguments that go by value (the state among them), the answer,
- * and all frames below. Each is the most that was met over accepted and refused calls, most of them with P = 4096, S = 16,
- * L = 8 and the 144 entries that an index can have. A call above 2 KiB says so, and makes the exit status 1.
+ * is what differs afterwards. Two figures: the whole, from the caller's frame down, and the call's own, below the arguments and
+ * the answer that a caller lays out. That share is measured by a call in the shape of close that does nothing: a state each way
+ * and ten words, some 500 bytes. Each figure is the most that was met over accepted and refused calls, most of them with
+ * P = 4096, S = 16, L = 8 and the 144 entries that an index can have. A call whose own stack is above 2 KiB says so, and makes
+ * the exit status 1.
  *
  *     cc -O2 -Ic c/bench/stack.c ARCHIVE -o stack && ./stack          ARCHIVE: rt staticlib cabi */
 #define _DEFAULT_SOURCE
@@ -24,7 +26,7 @@ static uint8_t ledger[LEDGER], base[E * P], side[SIDE], buffer[S * P], kinds[E],
 static ungletice_settings settings = {P, S, L, E};
 static ungletice_state state;
 static uint32_t end, page, offset, kind, number;
-static size_t length, deepest, worst;
+static size_t length, deepest, worst, share;
 
 /* The first byte, from the far end, that is not the pattern any more, in whole words; seen from inside, before anything else
  * runs there. */
@@ -93,6 +95,22 @@ SUBJECT(grows)
 SUBJECT(closes)
 {
     ungletice_answer a = ungletice_recorder_close(state, FILES);
+    number = a.number;
+}
+
+/* In the shape of close, with nothing done. */
+__attribute__((noinline)) static ungletice_answer nothing(ungletice_state s, uint8_t *a, size_t al, uint8_t *b, size_t bl,
+                                                          uint8_t *c, size_t cl, const uint8_t *d, size_t dl, const uint8_t *e,
+                                                          size_t el)
+{
+    ungletice_answer none = {0};
+    __asm__ volatile("" : : "m"(s), "r"(a), "r"(b), "r"(c), "r"(d), "r"(e), "r"(al + bl + cl + dl + el));
+    return none;
+}
+
+SUBJECT(lays_out)
+{
+    ungletice_answer a = nothing(state, FILES);
     number = a.number;
 }
 
@@ -179,8 +197,10 @@ static void asks(uint32_t of, size_t n)
 
 static void row(const char *name)
 {
-    printf("%-28s %6zu%s\n", name, deepest, deepest > MOST ? "  above" : "");
-    worst = deepest > worst ? deepest : worst;
+    size_t own = deepest - share;
+
+    printf("%-28s %6zu %6zu%s\n", name, deepest, own, own > MOST ? "  above" : "");
+    worst = own > worst ? own : worst;
     deepest = 0;
 }
 
@@ -204,6 +224,8 @@ static void recorder(void)
     end = E, meet("open", opens, 0);
     end = E + 1, meet("open", opens, 1);
     row("ungletice_recorder_open");
+    measure(lays_out);
+    share = deepest, deepest = 0;
     spans(reads, "read", 0);
     row("ungletice_recorder_read");
     spans(writes, "write", 7);
@@ -218,6 +240,7 @@ static void recorder(void)
     forge(END - S - 1, 1, 1, 12), meet("close", closes, 0);
     forge(0, 1, CLOSED, CLOSED), meet("close", closes, 0);
     row("ungletice_recorder_close");
+    share = 0;
 }
 
 /* Over the side file that the last close left: an entry of each page below 144, those below 16 with an image. */
@@ -263,10 +286,10 @@ int main(void)
 {
     look_up();
     kinds[RAW] = 1;
-    printf("stack of a call, bytes\n");
+    printf("stack of a call, bytes        whole    own\n");
     recorder();
     desk();
     small();
-    printf("%-28s %6zu of %d\n", "deepest", worst, MOST);
+    printf("%-28s        %6zu of %d\n", "deepest of the calls' own", worst, MOST);
     return worst > MOST;
 }
