@@ -12,16 +12,15 @@ use Rattle.lists.specs.Scans.{allOf}
 use Rattle.units.specs.Bounds.{limits-within, firstImage-least}
 use Rattle.units.specs.Refusals as Refusals
 use Rattle.units.specs.Sizes.{headerLength, indexRow, indexEnd, sideLength}
-use Rattle.units.specs.Tests.{passes, verdict}
+use Rattle.units.specs.Tests.{passes, verdict, passes-both, verdict-behind, verdict-none, stopped}
 use Rattle.units.specs.declared.Settings.{Settings}
 use Rattle.sidefile.specs.Encode.{headerOf}
 use Rattle.sidefile.specs.Judge.{markTests, headerTests, indexTests, wholeTests, frontTests, heldTests, reaches, holds}
-use Rattle.sidefile.specs.Passed.{AllPassed, Indexed, passes-parts, verdict-none, verdict-before, verdict-behind, held-passed, front-passed, whole-passed, front-accepted, whole-accepted}
+use Rattle.sidefile.specs.Passed.{AllPassed, Indexed, held-passed, front-passed, whole-passed, front-accepted, whole-accepted}
 use Rattle.sidefile.specs.declared.Header.{Header}
 use Rattle.desk.specs.Follow.{sideTests, pairTests, followTests}
 use Rattle.desk.specs.Read.{spanTests, readTests}
 use Rattle.desk.specs.Take.{sameSettings, refreshTests}
-use Rattle.desk.proofs.Answers.{not-passed}
 
 pub record Followed (whole : Bool) (held side : List ℕ) : Type 0 where
   pub kept : AllPassed (holds (length held)) held
@@ -47,7 +46,7 @@ pub followed : (whole : Bool) (held side : List ℕ) → passes (followTests who
 unfolding followTests pairTests passes
 followed whole held side e =
     let a = both (passes (heldTests held)) (passes (sideTests whole side ++ pairTests (headerOf held) (headerOf side))) e in
-    let b = passes-parts (sideTests whole side) (pairTests (headerOf held) (headerOf side)) (a .1) in
+    let b = passes-both (sideTests whole side) (pairTests (headerOf held) (headerOf side)) (a .1) in
     let c = both (sameSettings (headerOf held .settings) (headerOf side .settings)) _ (b .1) in
     record { kept = held-passed held (a .0); shown = b .0; same = same-named held side (c .0) }
 
@@ -118,7 +117,7 @@ module _ (whole : Bool) (held side : List ℕ) where
   pub side-fails : passes (heldTests held) ≡ true → (n : ℕ) → n ≡ verdict (sideTests whole side) → (n ≡ 0 → ⊥)
       → n ≡ verdict (followTests whole held side)
   unfolding followTests verdict
-  side-fails h n e ne = rw h (e ∙ sym (verdict-before (sideTests whole side) _ (not-passed (sideTests whole side) n e ne)))
+  side-fails h n e ne = rw h (stopped (sideTests whole side) _ n e ne)
 
   pub pair-decides : passes (heldTests held) ≡ true → passes (sideTests whole side) ≡ true → (old new : Header) → old ≡ headerOf held → new ≡ headerOf side
       → verdict (followTests whole held side) ≡ verdict (pairTests old new)

@@ -1,4 +1,3 @@
-pub mod Answers
 pub mod Followed
 pub mod Raised
 pub mod Replied

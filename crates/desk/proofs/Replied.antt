@@ -10,14 +10,13 @@ use Rattle.lists.specs.Below.{below}
 use Rattle.octets.specs.Part.{part, lay}
 use Rattle.units.specs.Refusals as Refusals
 use Rattle.units.specs.Sizes.{indexEnd}
-use Rattle.units.specs.Tests.{Test, passes, verdict, tested}
+use Rattle.units.specs.Tests.{Test, passes, verdict, tested, refused-before, refused-last, accepted-last}
 use Rattle.sidefile.specs.Encode.{headerOf, indexOf}
 use Rattle.sidefile.specs.Judge.{wholeTests}
 use Rattle.sidefile.specs.declared.Header.{Header}
 use Rattle.desk.specs.Follow.{followTests}
 use Rattle.desk.specs.Outcome.{TakeDone, RefreshDone}
 use Rattle.desk.specs.Take.{Taken, untaken, heldLength, taken, takeTests, takeReply, markOf, marksAfter, refreshReply}
-use Rattle.desk.proofs.Answers.{refused-before, refused-last, accepted-last}
 use Rattle.desk.proofs.Followed.{refresh-tests}
 
 took : {reply : Taken} (t : Taken) → reply ≡ t → TakeDone reply (t .number) (t .held)
@@ -40,7 +39,7 @@ module _ (side held : List ℕ) where
 
   pub take-refused : (n : ℕ) → n ≡ verdict whole → (n ≡ 0 → ⊥) → TakeDone (takeReply side held) n held
   unfolding takeReply takeTests
-  take-refused n e ne = took (untaken held [] n) (refused-before (untaken held []) takes whole _ _ n e ne)
+  take-refused n e ne = took (untaken held [] n) (refused-before (untaken held []) takes whole _ n e ne)
 
   pub take-short : passes whole ≡ true → length held < heldLength side → TakeDone (takeReply side held) Refusals.short held
   unfolding takeReply takeTests
@@ -70,7 +69,7 @@ module _ (side held marks : List ℕ) where
   by-tests = ap (λ (ts : List Test). tested ts refusal refreshes) (refresh-tests side held marks)
 
   pub refresh-refused : (n : ℕ) → n ≡ verdict follow → (n ≡ 0 → ⊥) → RefreshDone (refreshReply side held marks) n held marks
-  refresh-refused n e ne = refreshed (refusal n) (by-tests ∙ refused-before refusal refreshes follow _ _ n e ne)
+  refresh-refused n e ne = refreshed (refusal n) (by-tests ∙ refused-before refusal refreshes follow _ n e ne)
 
   pub refresh-short : passes follow ≡ true → length marks < headerOf side .end
       → RefreshDone (refreshReply side held marks) Refusals.short held marks

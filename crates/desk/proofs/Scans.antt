@@ -7,7 +7,8 @@ use mathlib.Core.Path.{_≡_, refl, subst}
 use native.Mathlib.Omega.{arith}
 use lib.ListN.{length, drop}
 use Rattle.lists.specs.Bools.{if-then}
-use Rattle.lists.specs.Scans.{Every, head, tail, first}
+use Rattle.lists.specs.Maps.{every-drop}
+use Rattle.lists.specs.Scans.{Every, head, first}
 use Rattle.sidefile.specs.Table.{position}
 
 pub first-at : {A : Type 0} (t : A → Bool) (l : List A) (i : ℕ) (x : A) (r : List A) → i ≡ position t l → drop i l ≡ x ∷ r → first t l ≡ some x
@@ -34,7 +35,4 @@ first-past t (y ∷ ys) h = go (t y) h (first-past t ys)
     go false h ih = ih (omega arith)
 
 pub every-at : {A : Type 0} {P : A → Type 0} (l : List A) (i : ℕ) {x : A} {r : List A} → Every P l → drop i l ≡ x ∷ r → P x
-every-at [] zero a d = let z : _≡_ {A = ℕ} 0 1 = cc in absurd (omega arith)
-every-at [] (suc i) a d = let z : _≡_ {A = ℕ} 0 1 = cc in absurd (omega arith)
-every-at {P = P} (y ∷ l) zero {x = x} a d = let e : y ≡ x = cc in subst P e (head a)
-every-at (y ∷ l) (suc i) a d = every-at l i (tail a) d
+every-at {P = P} l i a d = head (subst (Every P) d (every-drop i l a))

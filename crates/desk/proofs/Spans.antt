@@ -17,12 +17,12 @@ use Rattle.octets.specs.Rows.{row, row-in}
 use Rattle.lookup3.specs.Hash.{hashlittle}
 use Rattle.units.specs.Refusals as Refusals
 use Rattle.units.specs.Sizes.{headerLength, indexRow, limits, places, imageAt, sideLength}
-use Rattle.units.specs.Tests.{Test, passes, verdict, tested-passes}
+use Rattle.units.specs.Tests.{Test, passes, verdict, tested-passes, passes-both, verdict-behind, verdict-none, stopped, refused-by}
 use Rattle.units.specs.declared.Place.{Place}
 use Rattle.units.specs.declared.Settings.{Settings}
 use Rattle.sidefile.specs.Encode.{checksum, imageSum, headerOf, indexEntryOf, indexOf}
 use Rattle.sidefile.specs.Judge.{markTests, headerTests, frontTests}
-use Rattle.sidefile.specs.Passed.{passes-parts, verdict-before, verdict-behind, verdict-none, front-passed}
+use Rattle.sidefile.specs.Passed.{front-passed}
 use Rattle.sidefile.specs.Table.{ofPage, position, entriesAt, index-entries, entry-next, length-entriesAt}
 use Rattle.sidefile.specs.declared.Header.{Header}
 use Rattle.sidefile.specs.declared.IndexEntry.{IndexEntry}
@@ -31,7 +31,6 @@ use Rattle.desk.specs.Outcome.{Handed}
 use Rattle.desk.specs.Read.{Answer, refused, spanTests, readTests, heldEntry, located, deskRead}
 use Rattle.desk.specs.Span.{span, noSpan, baseSpan, imageSpan, Locates}
 use Rattle.desk.specs.declared.locate.Found.{Found}
-use Rattle.desk.proofs.Answers.{not-passed, refused-by}
 use Rattle.desk.proofs.Followed.{Followed, followed, read-tests}
 use Rattle.desk.proofs.Scans.{first-at, first-past, every-at}
 
@@ -55,7 +54,7 @@ module _ (held side base : List ℕ) (p offset n : ℕ) where
   unfolding spanTests sideTests passes
   readable e =
       let s = headerOf held .settings in
-      let a = passes-parts (followTests false held side) (spanTests (headerOf held) base p offset n)
+      let a = passes-both (followTests false held side) (spanTests (headerOf held) base p offset n)
       (ap passes (sym (read-tests held side base p offset n)) ∙ e) in
       let f = followed false held side (a .0) in
       let b = both (leb (s .size * headerOf held .end) (length base)) _ (a .1) in
@@ -111,10 +110,7 @@ module _ (held side base : List ℕ) (p offset n : ℕ) where
   verdict-on = verdict (readTests held side base p offset n)
 
   pub follow-refused : (k : ℕ) → k ≡ verdict (followTests false held side) → (k ≡ 0 → ⊥) → k ≡ verdict-on
-  follow-refused k e ne =
-      e
-      ∙ sym (ap verdict (read-tests held side base p offset n)
-      ∙ verdict-before (followTests false held side) _ (not-passed (followTests false held side) k e ne))
+  follow-refused k e ne = stopped (followTests false held side) _ k e ne ∙ sym (ap verdict (read-tests held side base p offset n))
 
   pub span-decides : passes (followTests false held side) ≡ true → (h : Header) → h ≡ headerOf held
       → verdict (spanTests h base p offset n) ≡ verdict-on

@@ -1,15 +1,18 @@
 -- Flags of rows, set one after the other: what one turn of a loop does. Assumes nothing.
 use Prim.Native.Nat.{ℕ, _+_, _<_, _≤_}
-use mathlib.Core.Path.{_≡_, refl, _∙_, sym}
-use mathlib.Core.Bool.{Bool, true, false, _||_}
+use mathlib.Core.Path.{_≡_, _∙_, sym}
+use mathlib.Core.Bool.{Bool, true, _||_}
 use mathlib.Core.List.{List, [], _∷_, _++_, map}
 use native.Mathlib.Numerals.{add-one}
 use native.Mathlib.Omega.{arith}
 use lib.Dec.{eqb}
 use lib.ListN.{length, take, set, getD, getElem?, length-map, length-take, List·getD-map}
 use lib.Seq.{take-all, take-suc, take-suc-set, take-set-lt, set-out, getD-take, length-take-le}
+use Rattle.lists.specs.Bools.{or-no, or-assoc}
+use Rattle.lists.specs.Maps.{map-append, any-snoc}
 use Rattle.lists.specs.Scans.{anyOf}
 use Rattle.octets.specs.Rows.{row}
+use Rattle.units.specs.Pages.{numbersOf}
 use Rattle.units.specs.Sizes.{entryRow}
 use Rattle.units.specs.declared.Page.{Page}
 use Rattle.units.specs.declared.Tick.{Tick}
@@ -18,10 +21,9 @@ use Rattle.sidefile.specs.Table.{position}
 use Rattle.ledger.specs.declared.Entry.{Entry}
 use Rattle.ledger.specs.View.{indexed, entryOf, entriesIn}
 use Rattle.ledger.specs.Entries.{pageOf, has, find, retires, enteredOr}
-use Rattle.ledger.specs.Changed.{numbersOf, among, isOld, entryTicks, retires-old, mark-page}
+use Rattle.ledger.specs.Changed.{among, isOld, entryTicks, retires-old, mark-page}
 use Rattle.ledger.specs.Search.{find-get}
 use Rattle.ledger.specs.Read.{entry-last}
-use Rattle.ledger.specs.Lists.{map-append, any-snoc}
 
 -- the flag of row i, by what a test says of its entry
 pub flag-next : (t : Entry → Bool) (n : ℕ) (xs : List ℕ) (i : ℕ) → i < n → (flags : List Bool) → i < length flags → take i flags ≡ map t (take i (entriesIn n xs))
@@ -30,7 +32,6 @@ flag-next t n xs i h flags k e b q =
     rw (entry-last n xs i h, map-append t (take i (entriesIn n xs)) (entryOf (row 0 entryRow i xs) ∷ []), ← e, ← q, add-one i) (take-suc-set flags i b k)
 
 pub numbers-whole : (k : ℕ) (pages : List Page) (j : ℕ) → k ≤ j → take j (numbersOf k pages) ≡ numbersOf k pages
-unfolding numbersOf
 numbers-whole k pages j h =
     take-all j (map (λ p. p .0) (take k pages)) (omega (arith, length-map (take k pages) (λ (p : Page). p .0), length-take k pages))
 
@@ -43,11 +44,7 @@ module _ (wait : ℕ) (N : Tick) (es : List Entry) where
 
   pub goes-none : map (isOld wait N) es ≡ map (goes []) es
   unfolding among anyOf
-  goes-none = λ i. map (λ e. or-no (isOld wait N e) i) es
-    where
-      or-no : (b : Bool) → b ≡ (b || false)
-      or-no true = refl
-      or-no false = refl
+  goes-none = λ i. map (λ e. sym (or-no (isOld wait N e)) i) es
 
   pub goes-all : (cs : List ℕ) → map (goes cs) es ≡ map (retires wait N (among cs)) es
   goes-all cs = λ i. map (λ e. retires-old wait N (among cs) e i) es
@@ -60,7 +57,6 @@ module _ (wait : ℕ) (N : Tick) (es : List Entry) where
     c = getD pages j (record { 0 = 0 }) .0
 
     cs-next : take (j + 1) cs ≡ take j cs ++ (c ∷ [])
-    unfolding numbersOf
     cs-next =
         let l : j < length (map (λ (p : Page). p .0) (take k pages)) = rw (length-map (take k pages) (λ (p : Page). p .0), length-take-le k pages long) h in
         rw (add-one j) (take-suc (map (λ (p : Page). p .0) (take k pages)) j 0 l
@@ -70,12 +66,8 @@ module _ (wait : ℕ) (N : Tick) (es : List Entry) where
     unfolding among has
     goes-next = λ i. map (λ e. one e i) es
       where
-        shift : (a b d : Bool) → ((a || b) || d) ≡ (a || (b || d))
-        shift true b d = refl
-        shift false b d = refl
-
         one : (e : Entry) → (goes (take j cs) e || has c e) ≡ goes (take (j + 1) cs) e
-        one e = shift (isOld wait N e) (among (take j cs) (pageOf e)) (has c e) ∙ rw (cs-next, any-snoc (eqb (pageOf e)) (take j cs) c)
+        one e = sym (or-assoc (isOld wait N e) (among (take j cs) (pageOf e)) (has c e)) ∙ rw (cs-next, any-snoc (eqb (pageOf e)) (take j cs) c)
 
     module _ (at : ℕ) (found : at ≡ position (has c) es) (n : ℕ) (l : length es ≡ n) (going : List Bool) (e : take n going ≡ map (goes (take j cs)) es) where
       pub goes-marked : ascending 0 (map indexed es) ≡ true → at < n → take n (set going at true) ≡ map (goes (take (j + 1) cs)) es

@@ -9,6 +9,7 @@ use lib.ListN.{length, take, set, getD, length-map, length-take}
 use lib.Seq.{take-nil, take-suc-set}
 use Rattle.lists.specs.Below.{from, below}
 use Rattle.lists.specs.Bools.{and-make, and-left, and-right}
+use Rattle.lists.specs.Maps.{map-append}
 use Rattle.lists.specs.Scans.{keep, anyOf}
 use Rattle.units.specs.declared.Place.{Place}
 use Rattle.units.specs.declared.Settings.{Settings}
@@ -17,7 +18,6 @@ use Rattle.ledger.specs.declared.Entry.{Entry}
 use Rattle.ledger.specs.Entries.{at, isReusable}
 use Rattle.ledger.specs.Placed.{resting}
 use Rattle.ledger.specs.Tables.{placesOf, heldBy, may-give, table-get}
-use Rattle.ledger.specs.Lists.{map-append}
 
 module _ (f : ℕ → Bool) (m wanted : ℕ) where
   -- the places found before q, and what is left to find

@@ -5,6 +5,7 @@ use mathlib.Core.List.{List, [], _∷_, _++_, map, append-nil}
 use native.Mathlib.Omega.{arith}
 use lib.ListN.{length, take, drop, replicate, length-map}
 use lib.Seq.{take-take, take-at, length-take-le}
+use Rattle.lists.specs.Maps.{map-append}
 use Rattle.octets.specs.Number.{Octets, bytes32}
 use Rattle.octets.specs.Part.{part, lay, lay-nil, lay-next, length-part}
 use Rattle.octets.specs.Rows.{row, join, join-append}
@@ -16,7 +17,6 @@ use Rattle.ledger.specs.declared.Entry.{Entry}
 use Rattle.ledger.specs.View.{indexed, entryOf, entryRowOf, entriesIn}
 use Rattle.ledger.specs.Rowed.{row-written, octets-take, octets-drop, length-entriesIn}
 use Rattle.ledger.specs.Read.{entry-last, entries-whole}
-use Rattle.ledger.specs.Lists.{map-append}
 
 module _ (xs : List ℕ) (n : ℕ) (side : List ℕ) where
   -- the side file with the index of the first i entries

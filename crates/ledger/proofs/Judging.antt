@@ -1,15 +1,15 @@
 -- The judge of the ledger: what one turn of each pass does. Assumes nothing.
-use Prim.Native.Nat.{ℕ, suc, _+_, _-_, _<_, _≤_}
+use Prim.Native.Nat.{ℕ, _+_, _-_, _<_, _≤_}
 use mathlib.Core.Path.{_≡_, refl, _∙_, sym, ap}
 use mathlib.Core.Bool.{Bool, true, false, not, _&&_, _||_}
 use mathlib.Core.List.{List, map}
 use native.Mathlib.Omega.{arith}
-use native.Mathlib.Numerals.{add-one}
 use lib.Dec.{eqb, leb}
 use lib.ListN.{drop, getD}
 use borrow.Author.Tests.{ne-eqb, le-leb, lt-leb}
-use Rattle.lists.specs.Below.{from, below, every-from}
+use Rattle.lists.specs.Below.{below, every-from}
 use Rattle.lists.specs.Bools.{and-make, and-left, and-right, or-right, not-both, false-of}
+use Rattle.lists.specs.Maps.{all-same}
 use Rattle.lists.specs.Scans.{anyOf, allOf, every-map}
 use Rattle.octets.specs.Rows.{row}
 use Rattle.units.specs.Sizes.{entryRow, placeRow, places, placesAt, wait}
@@ -21,47 +21,8 @@ use Rattle.ledger.specs.View.{indexed, entryOf, entriesIn, placeRowAt, r
 use Rattle.ledger.specs.Entries.{pageOf, at, isOwed}
 use Rattle.ledger.specs.Rules.{ledgerRules}
 use Rattle.ledger.specs.Fits.{ticksFit, placeFits, fits-pages, fits-ticks, fits-places, fits-retired, fits-all}
-use Rattle.ledger.specs.Lists.{any-snoc, below-snoc, all-same}
 use Rattle.ledger.specs.Read.{entry-next, entries-end}
 use Rattle.ledger.specs.Tables.{heldBy, table-get}
-
--- A search that goes to the end.
-
-module _ (t : ℕ → Bool) (i : ℕ) where
-  pub any-more : t i ≡ true → true ≡ anyOf t (below (i + 1))
-  any-more e = sym (ap (anyOf t) (below-snoc i) ∙ any-snoc t (below i) i ∙ or-right (anyOf t (below i)) (t i) e)
-
-  pub any-same : t i ≡ false → anyOf t (below i) ≡ anyOf t (below (i + 1))
-  any-same e = sym (ap (anyOf t) (below-snoc i) ∙ any-snoc t (below i) i ∙ rw e (no (anyOf t (below i))))
-    where
-      no : (b : Bool) → (b || false) ≡ b
-      no true = refl
-      no false = refl
-
--- A pass over numbers in a row.
-
-module _ (t : ℕ → Bool) (m : ℕ) where
-  -- from q on
-  unfoldable pub allFrom : ℕ → Bool
-  allFrom q = allOf t (from q (m - q))
-
-  pub all-start : allOf t (below m) ≡ allFrom 0
-  unfolding allFrom
-  all-start = let e : m - 0 ≡ m = omega arith in rw e
-
-  module _ (q : ℕ) where
-    pub all-end : m ≤ q → allFrom q ≡ true
-    unfolding allFrom from allOf
-    all-end h = let e : m - q ≡ 0 = omega arith in rw e
-
-    module _ (h : q < m) where
-      pub all-stop : t q ≡ false → allFrom q ≡ false
-      unfolding allFrom from allOf
-      all-stop k = let e : m - q ≡ suc (m - (q + 1)) = omega arith in rw (e, k)
-
-      pub all-turn : t q ≡ true → allFrom q ≡ allFrom (q + 1)
-      unfolding allFrom from allOf
-      all-turn k = let e : m - q ≡ suc (m - (q + 1)) = omega arith in rw (e, k, add-one q)
 
 -- A pass over entries.
 

@@ -5,4 +5,3 @@ pub mod Judging
 pub mod Keeping
 pub mod Placing
 pub mod Putting
-pub mod Renewing

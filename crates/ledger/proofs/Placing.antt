@@ -10,6 +10,8 @@ use lib.Seq.{length-take-le}
 use borrow.Author.Tests.{ne-eqb}
 use Rattle.lists.specs.Below.{from, below}
 use Rattle.lists.specs.Bools.{if-then}
+use Rattle.lists.specs.Maps.{map-append, any-snoc}
+use Rattle.lists.specs.Passes.{below-snoc}
 use Rattle.lists.specs.Scans.{anyOf}
 use Rattle.octets.specs.Number.{bytes32, length-bytes}
 use Rattle.octets.specs.Part.{part, lay, lay-nil, lay-next, lay-part, part-lay-after}
@@ -28,7 +30,6 @@ use Rattle.ledger.specs.Rowed.{length-entriesIn}
 use Rattle.ledger.specs.Read.{entry-last}
 use Rattle.ledger.specs.Flagged.{picked, picked-snoc}
 use Rattle.ledger.specs.Tables.{heldBy, placeTable, rowAfter, rowsAfter, table-none, table-mark}
-use Rattle.ledger.specs.Lists.{map-append, below-snoc, any-snoc}
 
 -- Tables by place.
 

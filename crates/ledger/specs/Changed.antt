@@ -7,13 +7,12 @@ use mathlib.Core.List.{List, [], _∷_, map}
 use native.Mathlib.Omega.{arith}
 use native.Mathlib.Decide.{decLt}
 use lib.Dec.{eqb}
-use lib.ListN.{take, set}
+use lib.ListN.{set}
 use borrow.Author.Tests.{eq-eqb, eqb-true}
 use Rattle.lists.specs.Below.{below, every-from, any-from}
-use Rattle.lists.specs.Bools.{if-then, and-make}
-use Rattle.lists.specs.Scans.{Every, Every.done, Every.more, keep, anyOf, every-map, any-none, none-any}
+use Rattle.lists.specs.Bools.{if-then, and-make, or-no, or-right}
+use Rattle.lists.specs.Scans.{Every, Every.done, Every.more, keep, anyOf, every-map, any-none, none-any, any-keep}
 use Rattle.units.specs.Ages as Ages
-use Rattle.units.specs.declared.Page.{Page}
 use Rattle.units.specs.declared.Tick.{Tick}
 use Rattle.sidefile.specs.Judge.{ascending}
 use Rattle.sidefile.specs.Table.{position}
@@ -21,12 +20,8 @@ use Rattle.ledger.specs.declared.Entry.{Entry}
 use Rattle.ledger.specs.View.{indexed}
 use Rattle.ledger.specs.Entries.{pageOf, has, find, retires, isLeaving, enteredOr}
 use Rattle.ledger.specs.Ordered.{asc-inv, asc-once}
-use Rattle.ledger.specs.Lists.{any-keep}
 
--- the numbers of the first k pages; p is one of some numbers
-unfoldable pub numbersOf : ℕ → List Page → List ℕ
-numbersOf k pages = map (λ p. p .0) (take k pages)
-
+-- p is one of some numbers
 unfoldable pub among : List ℕ → ℕ → Bool
 among cs p = anyOf (eqb p) cs
 
@@ -70,22 +65,14 @@ unfolding position has
 mark-page t p low [] a = refl
 mark-page t p low (x ∷ xs) a = go (has p x) refl (mark-page t p (pageOf x + 1) xs (asc-inv low x xs a .1))
   where
-    or-yes : (b : Bool) → true ≡ (b || true)
-    or-yes true = refl
-    or-yes false = refl
-
-    or-no : (b : Bool) → b ≡ (b || false)
-    or-no true = refl
-    or-no false = refl
-
     same : (l : List Entry) → Every (λ e. has p e ≡ false) l → map t l ≡ map (λ e. t e || has p e) l
     same l done = refl
-    same l (more {x = y} {xs = ys} h e) = rw (h, ← or-no (t y)) (ap (λ (r : List Bool). t y ∷ r) (same ys e))
+    same l (more {x = y} {xs = ys} h e) = rw (h, or-no (t y)) (ap (λ (r : List Bool). t y ∷ r) (same ys e))
 
     go : (b : Bool) → has p x ≡ b → set (map t xs) (position (has p) xs) true ≡ map (λ e. t e || has p e) xs
         → set (t x ∷ map t xs) (if-then b 0 (suc (position (has p) xs))) true ≡ ((t x || b) ∷ map (λ e. t e || has p e) xs)
-    go true q ih = rw (← or-yes (t x)) (ap (λ (r : List Bool). true ∷ r) (same xs (any-none (has p) xs once)))
+    go true q ih = rw (or-right (t x) true refl) (ap (λ (r : List Bool). true ∷ r) (same xs (any-none (has p) xs once)))
       where
         once : anyOf (has p) xs ≡ false
         once = rw (eqb-true (pageOf x) p q) at (asc-once low x xs a)
-    go false q ih = rw (← or-no (t x)) (ap (λ (r : List Bool). t x ∷ r) ih)
+    go false q ih = rw (or-no (t x)) (ap (λ (r : List Bool). t x ∷ r) ih)

@@ -11,19 +11,19 @@ use lib.ListN.{length, take, getD, length-map, List·getD-map}
 use lib.Seq.{getD-take, ext-getD}
 use borrow.Author.Tests.{eq-eqb, ne-eqb}
 use Rattle.lists.specs.Below.{below, zip, length-from, get-from, every-from}
-use Rattle.lists.specs.Scans.{Every, keep, anyOf, every-map}
+use Rattle.lists.specs.Maps.{get-map, get-zip, map-same, keep-same}
+use Rattle.lists.specs.Scans.{Every, keep, anyOf, every-map, any-keep}
 use Rattle.octets.specs.Part.{lay}
 use Rattle.units.specs.Ages as Ages
-use Rattle.units.specs.Bounds.{limits-within, places-most}
-use Rattle.units.specs.Sizes.{limits, entries, places, ledgerLength}
+use Rattle.units.specs.Pages.{numbersOf}
+use Rattle.units.specs.Sizes.{entries, places}
 use Rattle.units.specs.declared.Page.{Page}
 use Rattle.units.specs.declared.Place.{Place}
 use Rattle.units.specs.declared.Tick.{Tick}
 use Rattle.sidefile.specs.Judge.{ascending, apart}
 use Rattle.ledger.specs.declared.Entry.{Entry}
-use Rattle.ledger.specs.declared.renewal.Fresh.{Fresh}
 use Rattle.ledger.specs.View.{indexed, entriesIn}
-use Rattle.ledger.specs.Entries.{pageOf, placeOf, at, find, isDue, placeAfter, putAll, enteredOr, fresh}
+use Rattle.ledger.specs.Entries.{pageOf, at, find, isDue, placeAfter, putAll, enteredOr, fresh}
 use Rattle.ledger.specs.Rowed.{Small, length-entriesIn}
 use Rattle.ledger.specs.Placed.{givenUp}
 use Rattle.ledger.specs.Ordered.{length-put}
@@ -31,46 +31,45 @@ use Rattle.ledger.specs.Aged.{stay-split}
 use Rattle.ledger.specs.Closing.{Closing, now, waitOf, gives, newOf, staysOf, laterOf, IsNew, IsStay, asc-new, new-pages, later-facts, length-fresh}
 use Rattle.ledger.specs.Due.{dueIn, dueOf}
 use Rattle.ledger.specs.Guarded.{ledgerLater}
-use Rattle.ledger.specs.Changed.{numbersOf, entryTicks}
+use Rattle.ledger.specs.Changed.{entryTicks}
 use Rattle.ledger.specs.Flagged.{picked, others, picked-keep, others-keep}
-use Rattle.ledger.specs.Lists.{get-map, get-zip, map-same, keep-same, any-keep}
 use Rattle.ledger.specs.Tables.{placesOf, heldBy, rowAfter, rowsAfter, row-after, table-get}
-use Rattle.ledger.specs.Renewed.{freshAt, freshOf, Renews, laterIn, renewed, isDueNow}
+use Rattle.ledger.specs.Renewed.{freshAt, freshOf, Settles, Renews, laterIn, placesLater, renewed, isDueNow}
 
 -- Arrays of new entries.
 
 -- the pages, their places, the checksums of their images and their entry ticks make the new entries of these pages and places
-pub fresh-arrays : (N : Tick) (es : List Entry) (sum : ℕ → ℕ) (cs qs : List ℕ) (f : Fresh) → length cs ≡ f .count → length cs ≤ length qs
-    → numbersOf (f .count) (f .pages) ≡ cs → placesOf (f .count) (f .places) ≡ take (f .count) qs → take (f .count) (f .sums) ≡ map sum cs
-    → take (f .count) (f .entered) ≡ entryTicks N es cs → freshOf N f ≡ map (fresh N es sum) (zip cs qs)
-unfolding freshOf freshAt fresh numbersOf placesOf entryTicks
-fresh-arrays N es sum cs qs f c m p q s t =
-    ext-getD (freshAt N f 0) (freshOf N f) (map (fresh N es sum) (zip cs qs))
+pub fresh-arrays : (N : Tick) (es : List Entry) (sum : ℕ → ℕ) (cs qs : List ℕ) (pages : List Page) (given : List Place) (sums : List ℕ) (entered : List Tick) (k : ℕ)
+    → length cs ≡ k → length cs ≤ length qs → numbersOf k pages ≡ cs → placesOf k given ≡ take k qs → take k sums ≡ map sum cs → take k entered ≡ entryTicks N es cs
+    → freshOf N pages given sums entered k ≡ map (fresh N es sum) (zip cs qs)
+unfolding freshOf freshAt fresh placesOf entryTicks
+fresh-arrays N es sum cs qs pages given sums entered k c m p q s t =
+    ext-getD (new 0) (map new (below k)) (map (fresh N es sum) (zip cs qs))
     (len ∙ sym c ∙ sym (length-fresh N es sum cs qs m))
     (λ i h. one i (omega (arith, len)))
   where
-    k : ℕ
-    k = f .count
+    new : ℕ → Entry
+    new = freshAt N pages given sums entered
 
-    len : length (map (freshAt N f) (below k)) ≡ k
-    len = length-map (below k) (freshAt N f) ∙ length-from 0 k
+    len : length (map new (below k)) ≡ k
+    len = length-map (below k) new ∙ length-from 0 k
 
-    one : (i : ℕ) → i < k → getD (map (freshAt N f) (below k)) i (freshAt N f 0) ≡ getD (map (fresh N es sum) (zip cs qs)) i (freshAt N f 0)
+    one : (i : ℕ) → i < k → getD (map new (below k)) i (new 0) ≡ getD (map (fresh N es sum) (zip cs qs)) i (new 0)
     one i h =
-        let page : getD (f .pages) i (record { 0 = 0 }) .0 ≡ getD cs i 0 =
-        sym (ap (λ (l : List ℕ). getD l i 0) (sym p) ∙ List·getD-map (λ (x : Page). x .0) (take k (f .pages)) i (record { 0 = 0 }) ∙ ap (λ (x : Page). x .0) (getD-take k (f .pages) i (record { 0 = 0 }) h)) in
-        let place : getD (f .places) i (record { 0 = 0 }) .0 ≡ getD qs i 0 =
-        sym (sym (getD-take k qs i 0 h) ∙ ap (λ (l : List ℕ). getD l i 0) (sym q) ∙ List·getD-map (λ (x : Place). x .0) (take k (f .places)) i (record { 0 = 0 })
-        ∙ ap (λ (x : Place). x .0) (getD-take k (f .places) i (record { 0 = 0 }) h)) in
-        let total : getD (f .sums) i 0 ≡ sum (getD cs i 0) =
-        sym (getD-take k (f .sums) i 0 h) ∙ ap (λ (l : List ℕ). getD l i 0) s ∙ get-map sum 0 0 i cs (omega arith) in
-        let tick : getD (f .entered) i (record { 0 = 0 }) ≡ enteredOr N (find (getD cs i 0) es) =
-        sym (getD-take k (f .entered) i (record { 0 = 0 }) h) ∙ ap (λ (l : List Tick). getD l i (record { 0 = 0 })) t
+        let page : getD pages i (record { 0 = 0 }) .0 ≡ getD cs i 0 =
+        sym (ap (λ (l : List ℕ). getD l i 0) (sym p) ∙ List·getD-map (λ (x : Page). x .0) (take k pages) i (record { 0 = 0 }) ∙ ap (λ (x : Page). x .0) (getD-take k pages i (record { 0 = 0 }) h)) in
+        let place : getD given i (record { 0 = 0 }) .0 ≡ getD qs i 0 =
+        sym (sym (getD-take k qs i 0 h) ∙ ap (λ (l : List ℕ). getD l i 0) (sym q) ∙ List·getD-map (λ (x : Place). x .0) (take k given) i (record { 0 = 0 })
+        ∙ ap (λ (x : Place). x .0) (getD-take k given i (record { 0 = 0 }) h)) in
+        let total : getD sums i 0 ≡ sum (getD cs i 0) =
+        sym (getD-take k sums i 0 h) ∙ ap (λ (l : List ℕ). getD l i 0) s ∙ get-map sum 0 0 i cs (omega arith) in
+        let tick : getD entered i (record { 0 = 0 }) ≡ enteredOr N (find (getD cs i 0) es) =
+        sym (getD-take k entered i (record { 0 = 0 }) h) ∙ ap (λ (l : List Tick). getD l i (record { 0 = 0 })) t
         ∙ get-map (λ x. enteredOr N (find x es)) 0 (record { 0 = 0 }) i cs (omega arith) in
         let z : 0 + i ≡ i = omega arith in
-        get-from (freshAt N f) (freshAt N f 0) 0 k i h ∙ ap (freshAt N f) z
+        get-from new (new 0) 0 k i h ∙ ap new z
         ∙ (λ j. record { page = record { 0 = page j }; place = record { 0 = place j }; changed = N; sum = total j; entered = tick j })
-        ∙ sym (get-zip (fresh N es sum) (freshAt N f 0) i cs qs (omega arith) (omega arith))
+        ∙ sym (get-zip (fresh N es sum) (new 0) i cs qs (omega arith) (omega arith))
 
 -- The ledger of a close.
 
@@ -90,7 +89,7 @@ module _ (c : Closing) (n : ℕ) (old : c .old ≡ entriesIn n (c .ledger)) (goi
   held-given q = ap (λ (l : List Entry). anyOf (at q) l) (ap (picked going) (sym old) ∙ picked-keep (gives c) going (c .old) flags) ∙ any-keep (at q) (gives c) (c .old)
 
   pub renewed-later : places (c .settings) ≤ 272 → lay (c .ledger) 0 (renewed (c .settings) (c .ledger) n going (newOf c) (now c)) ≡ ledgerLater c
-  unfolding renewed rowsAfter
+  unfolding renewed placesLater rowsAfter
   renewed-later m =
       rw (
         later-in,
@@ -107,17 +106,12 @@ module _ (c : Closing) (n : ℕ) (old : c .old ≡ entriesIn n (c .ledger)) (goi
           ∙ row-after (c .settings) (waitOf c) (now c) (c .changedIn) (c .old) (c .ledger) q
 
   -- the ledger can be renewed
-  pub renews : limits (c .settings) ≡ true → ledgerLength (c .settings) ≤ length (c .ledger) → n ≤ entries (c .settings) → ascending 0 (map indexed (c .old)) ≡ true
-      → Every (λ e. placeOf e < places (c .settings)) (c .old) → (count : ℕ) → count ≤ 16 → length (newOf c) ≡ count → length (laterOf c) ≤ entries (c .settings) → Every Small (newOf c)
-      → Renews (c .settings) (c .ledger) n going (newOf c) count
-  renews l long few a placed count most k room small =
-      let m = places-most (c .settings) (limits-within (c .settings) l) in
+  pub renews : Settles (c .settings) (c .ledger) n → ascending 0 (map indexed (c .old)) ≡ true → (count : ℕ) → count ≤ 16 → length (newOf c) ≡ count
+      → length (laterOf c) ≤ entries (c .settings) → Every Small (newOf c) → Renews (c .settings) (c .ledger) n going (newOf c) count
+  renews settles a count most k room small =
       record {
-        limited = l;
-        long = long;
-        few = few;
+        settles = settles;
         ascends = rw (← old) a;
-        placed = rw (← old) (every-map (λ e h. omega arith) (c .old) placed);
         most = most;
         room = rw others-stay (omega (arith, length-put (newOf c) (staysOf c)));
         small = small;

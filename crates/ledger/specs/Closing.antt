@@ -14,7 +14,7 @@ use lib.ListN.{length}
 use borrow.Author.Tests.{eq-eqb, ne-eqb, not-true}
 use Rattle.lists.specs.Below.{below, zip, Rising, Rising.flat, Rising.step, rising-above, rising-keep, every-from, any-from, every-zip, every-of-map}
 use Rattle.lists.specs.Bools.{if-then, both, not-both, and-make}
-use Rattle.lists.specs.Scans.{Every, keep, anyOf, every-map, every-two, every-keep, every-all, every-self, none-any, any-keep-none, any-kept, none-first}
+use Rattle.lists.specs.Scans.{Every, keep, anyOf, every-map, every-two, every-keep, every-all, every-self, none-any, any-keep-none, none-first, any-keep}
 use Rattle.units.specs.Ages.{tick, reusable}
 use Rattle.units.specs.Sizes.{top, wait, places}
 use Rattle.units.specs.declared.Settings.{Settings}
@@ -213,8 +213,8 @@ module _ (c : Closing) where
   pub changed-entry : length (changesOf c) ≤ length (freeOf c) → (p : ℕ) → p < c .end → c .changedIn p ≡ true → anyOf (has p) (newOf c) ≡ true
   changed-entry enough p h k =
       all-fresh (now c) (c .old) (c .sum) p (changesOf c) (freeOf c) enough
-      (any-kept (λ q. eqb q p) (c .changedIn) (below (c .end))
-      (any-from (λ q. eqb q p && c .changedIn q) 0 (c .end) p (omega arith) (omega arith) (and-make (eqb p p) (c .changedIn p) (eq-eqb p p refl) k)))
+      (any-keep (λ q. eqb q p) (c .changedIn) (below (c .end))
+      ∙ any-from (λ q. eqb q p && c .changedIn q) 0 (c .end) p (omega arith) (omega arith) (and-make (eqb p p) (c .changedIn p) (eq-eqb p p refl) k))
 
   pub unchanged-entry : (p : ℕ) → c .changedIn p ≡ false → anyOf (has p) (newOf c) ≡ false
   unfolding has

@@ -8,7 +8,6 @@ pub mod Fits
 pub mod Flagged
 pub mod Guarded
 pub mod Laid
-pub mod Lists
 pub mod Ordered
 pub mod Placed
 pub mod Read
@@ -16,6 +15,7 @@ pub mod Renewed
 pub mod Rowed
 pub mod Rules
 pub mod Search
+pub mod Settled
 pub mod Tables
 pub mod View
 pub mod Written

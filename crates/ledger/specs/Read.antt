@@ -8,6 +8,7 @@ use native.Mathlib.Numerals.{add-one}
 use native.Mathlib.Omega.{arith}
 use lib.ListN.{take, drop, getD, getElem?, List·getD-map, drop-of-length-le}
 use lib.Seq.{drop-cons, take-suc, take-all}
+use Rattle.lists.specs.Maps.{some-get, none-get, every-get}
 use Rattle.lists.specs.Scans.{Every}
 use Rattle.octets.specs.Rows.{row, rows, rows-at}
 use Rattle.units.specs.Sizes.{entryRow}
@@ -16,7 +17,6 @@ use Rattle.sidefile.specs.Table.{column, entriesAt, entries-seen}
 use Rattle.ledger.specs.declared.Entry.{Entry}
 use Rattle.ledger.specs.View.{indexed, entryOf, entriesIn}
 use Rattle.ledger.specs.Rowed.{length-entriesIn}
-use Rattle.ledger.specs.Lists.{some-get, none-get, every-get}
 
 -- the columns of a row are its entry
 module _ (r : List ℕ) where

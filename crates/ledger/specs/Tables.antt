@@ -9,6 +9,7 @@ use lib.Dec.{eqb}
 use lib.ListN.{length, take, getD, set, replicate, length-map}
 use Rattle.lists.specs.Below.{from, below, length-from, get-from}
 use Rattle.lists.specs.Bools.{if-then}
+use Rattle.lists.specs.Passes.{set-from}
 use Rattle.lists.specs.Scans.{keep, anyOf}
 use Rattle.units.specs.Ages as Ages
 use Rattle.units.specs.Sizes.{wait, places}
@@ -18,7 +19,6 @@ use Rattle.units.specs.declared.Tick.{Tick}
 use Rattle.ledger.specs.declared.Entry.{Entry}
 use Rattle.ledger.specs.View.{entriesIn, placeRowAt, retired, retiredAt, retiredRow, freeRow}
 use Rattle.ledger.specs.Entries.{at, isReusable, placeAfter}
-use Rattle.ledger.specs.Lists.{set-from}
 use Rattle.ledger.specs.Placed.{givenUp, resting}
 
 -- for each place that any settings can have, whether it passes
@@ -87,6 +87,6 @@ pub table-none : placeTable (λ q. false) ≡ replicate 272 false
 unfolding placeTable
 table-none = sym (none-from 0 272)
 
--- the places of some entries, and of one more
+-- the places of some entries
 abbrev pub heldBy : List Entry → List Bool
 heldBy es = placeTable (λ q. anyOf (at q) es)

@@ -69,11 +69,11 @@ fn ticks_fit(s: &[u8], n: usize, wait: u32, closed: Tick, seats: [Page; 16], slo
 fn places_fit(
     s: &[u8],
     settings: Settings,
-    held: [bool; Settings::MOST_PLACES],
+    held: &[bool; Settings::MOST_PLACES],
     closed: Tick,
 ) -> bool
     requires { ⌜ (limits settings ≡ true) × (ledgerLength settings ≤ length (now s)) ⌝ }
-    ensures { λ r. ⌜ r ≡ allOf (λ q. placeFits settings closed (now (s .entry)) (getD held q false) q) (below (Sizes.places settings)) ⌝ }
+    ensures { λ r. ⌜ r ≡ allOf (λ q. placeFits settings closed (now (s .entry)) (getD (now (held .entry)) q false) q) (below (Sizes.places settings)) ⌝ }
 {
     let at = settings.places_at();
     let m = settings.places();
@@ -110,12 +110,11 @@ pub fn keeps_rules(
     if !ticks_fit(s, n, settings.wait(), closed, seats, wide(settings.slots)) {
         return false;
     }
-    let held = places::held_places(s, n, settings.places());
-    if !held.apart {
+    let mut held = [false; Settings::MOST_PLACES];
+    if !places::held_places(s, n, settings.places(), &mut held) {
         return false;
     }
-    let places = held.places;
-    places_fit(s, settings, places, closed)
+    places_fit(s, settings, &held, closed)
 }
 
 // The entries are of metadata pages. Their pages are below e, and the kind table is longer.

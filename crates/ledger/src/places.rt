@@ -7,10 +7,10 @@ use units::Place;
 use units::Settings;
 use units::Tick;
 ghost use mathlib.Core.Path.{_≡_};
-ghost use mathlib.Core.Bool.{true, not};
+ghost use mathlib.Core.Bool.{true, false, not};
 ghost use mathlib.Core.List.{map};
 ghost use Prim.Native.Nat.{_≤_, _<_, _+_, _*_};
-ghost use lib.ListN.{length, take};
+ghost use lib.ListN.{length, take, replicate};
 ghost use Rattle.lists.specs.Below.{below};
 ghost use Rattle.lists.specs.Scans.{Every};
 ghost use Rattle.octets.specs.Part.{lay};
@@ -24,12 +24,6 @@ ghost use Rattle.ledger.specs.Placed.{resting};
 ghost use Rattle.ledger.specs.Tables.{heldBy, placesOf, freeIn, rowAfter, rowsAfter};
 ghost use Rattle.ledger.specs.View.{indexed, entriesIn};
 
-// Which places entries hold, if each is below M and no two are one.
-pub struct Held {
-    pub apart: bool,
-    pub places: [bool; Settings::MOST_PLACES],
-}
-
 // Places that may be given, the lowest first.
 pub struct Free {
     pub places: [Place; 16],
@@ -40,10 +34,10 @@ pub struct Free {
 pub fn places_of(
     s: &[u8],
     n: usize,
-    marked: [bool; Settings::MOST_ENTRIES],
+    marked: &[bool; Settings::MOST_ENTRIES],
 ) -> [bool; Settings::MOST_PLACES]
     requires { ⌜ (n * entryRow ≤ length (now s)) × (n ≤ 144) × Every (λ e. placeOf e < 272) (entriesIn n (now s)) ⌝ }
-    ensures { λ r. ⌜ r ≡ heldBy (picked marked (entriesIn n (now (s .entry)))) ⌝ }
+    ensures { λ r. ⌜ r ≡ heldBy (picked (now (marked .entry)) (entriesIn n (now (s .entry)))) ⌝ }
 {
     let mut held = [false; Settings::MOST_PLACES];
     let mut i: usize = 0;
@@ -57,34 +51,29 @@ pub fn places_of(
     held
 }
 
-// The places of all entries. The table counts only if they are apart.
-pub fn held_places(s: &[u8], n: usize, most: usize) -> Held
-    requires { ⌜ (n * entryRow ≤ length (now s)) × (most ≤ 272) ⌝ }
-    ensures { λ r. ⌜ (r .apart ≡ placesFit most (map indexed (entriesIn n (now (s .entry))))) × (r .apart ≡ true → r .places ≡ heldBy (entriesIn n (now (s .entry)))) ⌝ }
+// Each entry's place is below `most` and no two are one. The table, at first all false, then says which places they are.
+pub fn held_places(
+    s: &[u8],
+    n: usize,
+    most: usize,
+    held: &mut [bool; Settings::MOST_PLACES],
+) -> bool
+    requires { ⌜ (n * entryRow ≤ length (now s)) × (most ≤ 272) × (now held ≡ replicate 272 false) ⌝ }
+    ensures { λ r. ⌜ (r ≡ placesFit most (map indexed (entriesIn n (now (s .entry))))) × (r ≡ true → now (held .exit) ≡ heldBy (entriesIn n (now (s .entry)))) ⌝ }
 {
-    let mut held = [false; Settings::MOST_PLACES];
     let mut i: usize = 0;
     while i < n {
         let place = wide(number(s, 0, Settings::ENTRY_ROW, i, layout::PLACE));
         if most <= place {
-            return Held {
-                apart: false,
-                places: held,
-            };
+            return false;
         }
         if held[place] {
-            return Held {
-                apart: false,
-                places: held,
-            };
+            return false;
         }
         held[place] = true;
         i += 1;
     }
-    Held {
-        apart: true,
-        places: held,
-    }
+    true
 }
 
 // The place is not retired, or has been for long enough at the close of `tick`.
@@ -105,8 +94,8 @@ pub fn free_places(s: &[u8], settings: Settings, n: usize, tick: Tick, wanted: u
     ensures { λ r. ⌜ (r .count ≡ length (take wanted (freeIn settings n tick (now (s .entry))))) × (placesOf (r .count) (r .places) ≡ take wanted (freeIn settings n tick (now (s .entry)))) ⌝ }
 {
     let m = settings.places();
-    let held = held_places(s, n, m);
-    let taken = held.places;
+    let mut taken = [false; Settings::MOST_PLACES];
+    held_places(s, n, m, &mut taken);
     let mut places = [Place(0); 16];
     let mut count: usize = 0;
     let mut q: usize = 0;

@@ -6,6 +6,11 @@ abbrev pub if-then : {X : Type 0} → Bool → X → X → X
 if-then true a b = a
 if-then false a b = b
 
+-- what holds of both sides of a choice holds of the one that is chosen
+pub if-has : {X : Type 0} (P : X → Type 0) (b : Bool) (x y : X) → P x → P y → P (if-then b x y)
+if-has P true x y h k = h
+if-has P false x y h k = k
+
 pub not-both : (b : Bool) → b ≡ true → b ≡ false → ⊥
 not-both b p q = true≢false (sym p ∙ q)
 
@@ -51,3 +56,20 @@ or-right false b q = q
 pub or-drop : (a b : Bool) → (a || b) ≡ true → a ≡ false → b ≡ true
 or-drop true b e p = absurd (true≢false p)
 or-drop false b e p = e
+
+-- a part that does not count, and three parts
+pub and-yes : (b : Bool) → (b && true) ≡ b
+and-yes true = refl
+and-yes false = refl
+
+pub or-no : (b : Bool) → (b || false) ≡ b
+or-no true = refl
+or-no false = refl
+
+pub and-assoc : (a b c : Bool) → (a && (b && c)) ≡ ((a && b) && c)
+and-assoc true b c = refl
+and-assoc false b c = refl
+
+pub or-assoc : (a b c : Bool) → (a || (b || c)) ≡ ((a || b) || c)
+or-assoc true b c = refl
+or-assoc false b c = refl

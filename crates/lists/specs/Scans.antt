@@ -6,7 +6,7 @@ use mathlib.Core.List.{List, [], _∷_}
 use mathlib.Core.Bool.{Bool, true, false, not, _&&_, _||_, false≢true, true≢false}
 use mathlib.Core.Option.{Option, some, none}
 use native.Mathlib.Omega.{arith}
-use Rattle.lists.specs.Bools.{if-then, both, and-make, or-false, or-none, or-right}
+use Rattle.lists.specs.Bools.{if-then, both, and-make, and-left, or-false, or-none, or-right}
 
 -- P holds of every element
 pub data Every {A : Type 0} (P : A → Type 0) : List A → Type 0 where
@@ -104,26 +104,22 @@ module _ {A : Type 0} where
       go false p true q h n ih = ih h n
       go false p false q h n ih = rw p (ih h n)
 
-  -- what passes both tests passes the first among those kept by the second
-  pub any-kept : (t s : A → Bool) (l : List A) → anyOf (λ x. t x && s x) l ≡ true → anyOf t (keep s l) ≡ true
+  -- something among those that pass one test passes another: something passes both
+  pub any-keep : (s t : A → Bool) (l : List A) → anyOf s (keep t l) ≡ anyOf (λ x. s x && t x) l
   unfolding anyOf keep
-  any-kept t s [] h = h
-  any-kept t s (x ∷ xs) h = go (t x) refl (s x) h (any-kept t s xs)
+  any-keep s t [] = refl
+  any-keep s t (x ∷ xs) = go (s x) refl (t x) (any-keep s t xs)
     where
-      go : (a : Bool) → t x ≡ a → (b : Bool) → ((a && b) || anyOf (λ x. t x && s x) xs) ≡ true → (anyOf (λ x. t x && s x) xs ≡ true → anyOf t (keep s xs) ≡ true) → anyOf t (if-then b (x ∷ keep s xs) (keep s xs)) ≡ true
-      go true p true h ih = rw p
-      go true p false h ih = ih h
-      go false p true h ih = rw p (ih h)
-      go false p false h ih = ih h
+      go : (a : Bool) → s x ≡ a → (b : Bool) → anyOf s (keep t xs) ≡ anyOf (λ x. s x && t x) xs
+          → anyOf s (if-then b (x ∷ keep t xs) (keep t xs)) ≡ (a && b || anyOf (λ x. s x && t x) xs)
+      go true q true ih = rw q
+      go true q false ih = ih
+      go false q true ih = rw q ih
+      go false q false ih = ih
 
   pub any-keep-none : (u s : A → Bool) (l : List A) → anyOf u l ≡ false → anyOf u (keep s l) ≡ false
-  unfolding anyOf keep
-  any-keep-none u s [] n = n
-  any-keep-none u s (y ∷ ys) n = let o = or-false (u y) (anyOf u ys) n in go (s y) (o .0) (any-keep-none u s ys (o .1))
-    where
-      go : (c : Bool) → u y ≡ false → anyOf u (keep s ys) ≡ false → anyOf u (if-then c (y ∷ keep s ys) (keep s ys)) ≡ false
-      go true k ih = rw k ih
-      go false k ih = ih
+  any-keep-none u s l n =
+      any-keep u s l ∙ none-any (λ x. u x && s x) l (every-map (λ x k. and-left (u x) (s x) k) l (any-none u l n))
 
   -- one that passes both tests
   pub any-both : {P : A → Type 0} (t : A → Bool) (l : List A) → Every P l → anyOf t l ≡ true → (u : A → Bool) → ((x : A) → P x → t x ≡ true → u x ≡ true) → anyOf u l ≡ true

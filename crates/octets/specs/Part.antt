@@ -217,8 +217,8 @@ module _ {A : Type 0} where
   unfolding part
   part-lay-in xs a n b k ys e = ap (take n) (drop-lay-in xs a b k ys e) ∙ take-lay-in (drop a xs) n b ys
 
-  -- a part of a part
-  drop-take : (k n : ℕ) (xs : List A) → drop k (take (k + n) xs) ≡ take n (drop k xs)
+  -- the rest of a front, and a part of a part
+  pub drop-take : (k n : ℕ) (xs : List A) → drop k (take (k + n) xs) ≡ take n (drop k xs)
   drop-take zero n xs = let e : 0 + n ≡ n = omega arith in rw e
   drop-take (suc k) n [] = rw (take-nil {A = A} (suc k + n), take-nil {A = A} n)
   drop-take (suc k) n (x ∷ xs) = let e : suc k + n ≡ suc (k + n) = omega arith in rw e (drop-take k n xs)

@@ -9,8 +9,8 @@ use native.Mathlib.Nat.{le-of-suc-le-suc, not-suc-le-zero, suc-mul, zero-mul, ad
 use native.Mathlib.Numerals.{add-one}
 use native.Mathlib.Omega.{arith}
 use lib.ListN.{length, take, drop, set, getD, length-append, length-drop}
-use lib.Seq.{set-split, take-take, take-nil, drop-drop, take-add, take-at, drop-at, drop-cons, length-take-le}
-use Rattle.octets.specs.Part.{part, lay, lay-zero, length-part, take-lay, lay-next, lay-part, lay-under, drop-lay-in, part-lay-same, part-lay-before, part-lay-after}
+use lib.Seq.{set-split, take-take, drop-drop, take-add, take-at, drop-at, drop-cons, length-take-le}
+use Rattle.octets.specs.Part.{part, lay, lay-zero, length-part, take-lay, lay-next, lay-part, lay-under, drop-lay-in, part-lay-same, part-lay-before, part-lay-after, drop-take}
 
 module _ {A : Type 0} where
   -- row i of a table that begins at s; page k of a file is its row k, from 0 on
@@ -156,25 +156,16 @@ unfolding join
 join-append [] ss = refl
 join-append (r ∷ rs) ss = rw (join-append rs ss) (sym (append-assoc r (join rs) (join ss)))
 
--- the rest of a front
-drop-take-add : {A : Type 0} (a b : ℕ) (zs : List A) → drop a (take (a + b) zs) ≡ take b (drop a zs)
-drop-take-add zero b zs = let e : 0 + b ≡ b = omega arith in rw e
-drop-take-add (suc a) b [] = rw (take-nil (suc a + b), take-nil b)
-drop-take-add (suc a) b (z ∷ zs) = let e : suc a + b ≡ suc (a + b) = omega arith in rw e (drop-take-add a b zs)
-
 -- the rows see only the first n * w bytes
 pub rows-front : {A : Type 0} (w n : ℕ) (xs ys : List A) → take (n * w) xs ≡ take (n * w) ys → rows w n xs ≡ rows w n ys
 unfolding rows
 rows-front w zero xs ys e = refl
-rows-front {A = A} w (suc n) xs ys e =
+rows-front w (suc n) xs ys e =
     let f : suc n * w ≡ w + n * w = omega (arith, suc-mul n w) in
     let g : take (w + n * w) xs ≡ take (w + n * w) ys = rw (← f) e in
     let h : take w xs ≡ take w ys = sym (take-take w (w + n * w) xs (omega arith)) ∙ rw g (take-take w (w + n * w) ys (omega arith)) in
-    let k : take (n * w) (drop w xs) ≡ take (n * w) (drop w ys) = sym (drop-take xs) ∙ ap (drop w) g ∙ drop-take ys in
+    let k : take (n * w) (drop w xs) ≡ take (n * w) (drop w ys) = sym (drop-take w (n * w) xs) ∙ ap (drop w) g ∙ drop-take w (n * w) ys in
     rw (h, rows-front w n (drop w xs) (drop w ys) k)
-  where
-    drop-take : (zs : List A) → drop w (take (w + n * w) zs) ≡ take (n * w) (drop w zs)
-    drop-take zs = drop-take-add w (n * w) zs
 
 pub rows-beside : {A : Type 0} (w n : ℕ) (xs : List A) (a : ℕ) (ys : List A) → n * w ≤ a → rows w n (lay xs a ys) ≡ rows w n xs
 rows-beside w n xs a ys h = rows-front w n (lay xs a ys) xs (take-lay xs a ys (n * w) h)

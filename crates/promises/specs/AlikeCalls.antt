@@ -7,23 +7,23 @@ use mathlib.Core.Bool.{Bool, true, false, _||_, false≢true, true≢false}
 use mathlib.Core.Option.{Option, some, none}
 use native.Mathlib.Decide.{ℕ-discrete}
 use native.Mathlib.Omega.{arith}
-use lib.Dec.{eqb, ltb, leb}
+use lib.Dec.{eqb, ltb}
 use lib.ListN.{length, set, length-replicate, length-set}
-use borrow.Author.Tests.{ltb-true, leb-true}
+use borrow.Author.Tests.{ltb-true}
 use Rattle.lists.specs.Bools.{if-then, both}
-use Rattle.lists.specs.Scans.{head, tail}
 use Rattle.octets.specs.Part.{lay, length-lay}
 use Rattle.octets.specs.Rows.{page, row-in, length-row}
 use Rattle.units.specs.Refusals as Refusals
 use Rattle.units.specs.Sizes.{baseLength}
-use Rattle.units.specs.Tests.{Test, passes, tested, passes-both, passes-every}
+use Rattle.units.specs.Tests.{Test, passes, tested, passes-both}
 use Rattle.slots.specs.Moves.{vacant-other}
 use Rattle.slots.specs.Seats.{Seated, seat-taken}
 use Rattle.slots.specs.Sits.{slot-beyond}
 use Rattle.slots.specs.Table.{pageAt, vacant, changedAt, touched, marked, Seat, seated}
 use Rattle.ledger.specs.Entries.{owedPage}
 use Rattle.ledger.specs.declared.Entry.{Entry}
-use Rattle.recorder.specs.Calls.{spanTests, unclean, Found, foundIn, found, hitWorld, missWorld, metaBypass, rawBypass, spanIn, laidIn, readFound, readReply, written, writeFound, writeReply, growTests, grown, zeroPage, growSeated, growReply}
+use Rattle.recorder.specs.Asked.{span-facts}
+use Rattle.recorder.specs.Calls.{spanTests, unclean, Found, foundIn, found, hitWorld, missWorld, metaBypass, rawBypass, spanIn, laidIn, readFound, readReply, written, writeFound, writeReply, growTests, grown, zeroPage, growSeated, growReply, seatFor}
 use Rattle.recorder.specs.Rules.{standing}
 use Rattle.recorder.specs.World.{World, Reply, refuse, accept, setBase, pageSize, slotCount, waitOf, metadata, slotBytes, baseBytes, slotFor}
 use Rattle.promises.specs.AlikeSlices.{lent-next, lent-slots, span-same, page-same, pages-same, span-read}
@@ -86,11 +86,11 @@ module _ (w v : World) (r : Ruled w) (l : Lent w v) where
   abbrev Takes : ℕ → ℕ → Seat → Type 0
   Takes end p x = Seated (slotCount w) end (unclean w) p (w .state .slots) x
 
-  seat-of : (p : ℕ) (x : Seat) → p < w .state .end → slotFor w p ≡ none → seated (slotCount w) (unclean w) p (w .state .slots) ≡ some x → Takes (w .state .end) p x
+  seat-of : (p : ℕ) (x : Seat) → p < w .state .end → slotFor w p ≡ none → seatFor w p ≡ some x → Takes (w .state .end) p x
   unfolding slotFor
   seat-of p x h n e = seat-taken (seats w r) (unclean w) p (w .state .end) n h (omega arith) (omega (arith, end-small w r)) x e
 
-  seat-new : (x : Seat) → seated (slotCount w) (unclean w) (w .state .end) (w .state .slots) ≡ some x → Takes (w .state .end + 1) (w .state .end) x
+  seat-new : (x : Seat) → seatFor w (w .state .end) ≡ some x → Takes (w .state .end + 1) (w .state .end) x
   seat-new x e =
       let n = end-small w r in
       seat-taken (seats w r) (unclean w) (w .state .end) (w .state .end + 1) (slot-beyond (seats w r) (w .state .end) (omega arith) (omega arith)) (omega arith) (omega arith) (omega arith) x e
@@ -151,12 +151,6 @@ module _ (w v : World) (r : Ruled w) (l : Lent w v) where
       (λ a. next (ap (λ (k : ℕ). ltb k 2) (same-kind w v r l p (in-file w r p (ltb-true p (w .state .end) a))))
       (λ b. next refl (λ c. last)))
 
-  span-facts : (p offset n : ℕ) → passes (spanTests w p offset n) ≡ true → (p < w .state .end) × (offset + n ≤ pageSize w)
-  unfolding spanTests
-  span-facts p offset n h =
-      let e = passes-every (spanTests w p offset n) h in
-      (ltb-true p (w .state .end) (head e), leb-true (offset + n) (pageSize w) (both (leb 1 n) (leb (offset + n) (pageSize w)) (head (tail (tail e))) .1))
-
   both-span : (p offset n : ℕ) (bs : List ℕ) (x y x₀ y₀ : Reply)
       → (p < w .state .end → offset + n ≤ pageSize w → Both x y)
       → (p < w .state .end → offset + n ≤ pageSize w → Both x₀ y₀)
@@ -164,17 +158,17 @@ module _ (w v : World) (r : Ruled w) (l : Lent w v) where
       (tested (standing twin ++ spanTests twin p offset n) (refuse twin bs) (if-then (metadata twin p) y y₀))
   both-span p offset n bs x y x₀ y₀ f g =
       both-tested w v r l bs (if-then (metadata w p) x x₀) (if-then (metadata twin p) y y₀) (spanTests w p offset n) (spanTests twin p offset n) (agree-span p offset n)
-      (λ h. let a = span-facts p offset n h in
-      both-if (metadata w p) (metadata twin p) x y x₀ y₀ (ap (λ (k : ℕ). eqb k 0) (same-kind w v r l p (in-file w r p (a .0)))) (f (a .0) (a .1)) (g (a .0) (a .1)))
+      (λ h. let a = span-facts w p offset n h in
+      both-if (metadata w p) (metadata twin p) x y x₀ y₀ (ap (λ (k : ℕ). eqb k 0) (same-kind w v r l p (in-file w r p (a .low)))) (f (a .low) (a .inside)) (g (a .low) (a .inside)))
 
   -- a page that is found in both alike
   both-found : (f : World → Found → Reply) (p : ℕ)
-      → ((o : Option ℕ) → slotFor w p ≡ o → (d : Option Seat) → seated (slotCount w) (unclean w) p (w .state .slots) ≡ d → Both (f w (foundIn o d)) (f twin (foundIn o d)))
+      → ((o : Option ℕ) → slotFor w p ≡ o → (d : Option Seat) → seatFor w p ≡ d → Both (f w (foundIn o d)) (f twin (foundIn o d)))
       → Both (f w (found w p)) (f twin (found twin p))
   unfolding found
   both-found f p h =
       subst (λ (d : Found). Both (f w (found w p)) (f twin d)) (same-found w v r l p)
-      (h (slotFor w p) refl (seated (slotCount w) (unclean w) p (w .state .slots)) refl)
+      (h (slotFor w p) refl (seatFor w p) refl)
 
   -- a span of the base
   base-spans : (p offset n : ℕ) → p < w .state .end → offset + n ≤ pageSize w → spanIn (pageSize w) (w .base) p offset n ≡ spanIn (pageSize w) (v .base) p offset n
@@ -185,7 +179,7 @@ module _ (w v : World) (r : Ruled w) (l : Lent w v) where
 
   -- read
   read-at : (p offset n : ℕ) → p < w .state .end → offset + n ≤ pageSize w
-      → (o : Option ℕ) → slotFor w p ≡ o → (d : Option Seat) → seated (slotCount w) (unclean w) p (w .state .slots) ≡ d
+      → (o : Option ℕ) → slotFor w p ≡ o → (d : Option Seat) → seatFor w p ≡ d
       → Both (readFound w p offset n (foundIn o d)) (readFound twin p offset n (foundIn o d))
   unfolding readFound foundIn hitWorld missWorld metaBypass slotBytes
   read-at p offset n h k (some i) e d f = both-accepted refl (span-read (pageSize w) i offset n (w .buffer) (v .buffer) k (same-slot w v r l p i h e)) (hit-lent w v r l p)
@@ -208,7 +202,7 @@ module _ (w v : World) (r : Ruled w) (l : Lent w v) where
 
   -- write
   write-at : (p offset : ℕ) (bs : List ℕ) → p < w .state .end → offset + length bs ≤ pageSize w
-      → (o : Option ℕ) → slotFor w p ≡ o → (d : Option Seat) → seated (slotCount w) (unclean w) p (w .state .slots) ≡ d
+      → (o : Option ℕ) → slotFor w p ≡ o → (d : Option Seat) → seatFor w p ≡ d
       → Both (writeFound w p offset bs (foundIn o d)) (writeFound twin p offset bs (foundIn o d))
   unfolding writeFound foundIn hitWorld missWorld written slotBytes
   write-at p offset bs h k (some i) e d f =
@@ -239,7 +233,7 @@ module _ (w v : World) (r : Ruled w) (l : Lent w v) where
   kinds-set : (kind : ℕ) → Front (w .state .settings .capacity) (set (w .kinds) (w .state .end) kind) (set (v .kinds) (w .state .end) kind)
   kinds-set kind = front-set (w .state .settings .capacity) (w .kinds) (v .kinds) (l .kinds) (w .state .end) kind
 
-  grow-at : (d : Option Seat) → seated (slotCount w) (unclean w) (w .state .end) (w .state .slots) ≡ d → Both (growSeated w d) (growSeated twin d)
+  grow-at : (d : Option Seat) → seatFor w (w .state .end) ≡ d → Both (growSeated w d) (growSeated twin d)
   unfolding growSeated grown vacant pageAt marked
   grow-at none e = both-refused w v r l [] Refusals.noSlot
   grow-at (some x) e =
@@ -263,7 +257,7 @@ module _ (w v : World) (r : Ruled w) (l : Lent w v) where
       (subst (λ (d : Option Seat). Both (growSeated w (seat w)) (growSeated twin d)) same (grow-at (seat w) refl)) grow-raw)
     where
       seat : World → Option Seat
-      seat u = seated (slotCount u) (unclean u) (u .state .end) (u .state .slots)
+      seat u = seatFor u (u .state .end)
 
-      same : seated (slotCount w) (unclean w) (w .state .end) (w .state .slots) ≡ seated (slotCount w) (unclean twin) (w .state .end) (w .state .slots)
+      same : seatFor w (w .state .end) ≡ seated (slotCount w) (unclean twin) (w .state .end) (w .state .slots)
       same = ap (λ (mask : ℕ → Bool). seated (slotCount w) mask (w .state .end) (w .state .slots)) (same-unclean w v r l)

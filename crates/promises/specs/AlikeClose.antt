@@ -3,14 +3,15 @@
 use Prim.Native.Nat.{ℕ, _*_, _<_}
 use mathlib.Core.Path.{_≡_, refl, _∙_, ap}
 use mathlib.Core.List.{List, [], _∷_, _++_, map}
-use mathlib.Core.Bool.{Bool, not, _&&_, _||_}
+use mathlib.Core.Bool.{not, _&&_, _||_}
 use mathlib.Core.Option.{Option, some, none}
 use native.Mathlib.Omega.{arith}
 use lib.Dec.{leb}
 use lib.ListN.{length, take}
 use Rattle.lists.specs.Below.{below, zip, every-from, every-zip, every-of-map}
 use Rattle.lists.specs.Bools.{if-then}
-use Rattle.lists.specs.Scans.{anyOf, Every, head, tail, keep, every-map, every-all, every-keep}
+use Rattle.lists.specs.Maps.{map-same, keep-same}
+use Rattle.lists.specs.Scans.{anyOf, Every, keep, every-map, every-all, every-keep}
 use Rattle.octets.specs.Part.{lay, length-lay}
 use Rattle.octets.specs.Rows.{join}
 use Rattle.units.specs.Ages as Ages
@@ -31,16 +32,6 @@ use Rattle.promises.specs.AlikeCalls.{Both, both-tested}
 use Rattle.recorder.specs.Facts.{Ruled}
 use Rattle.promises.specs.Fronts.{Front, front-lay}
 use Rattle.recorder.specs.Stored.{length-toSide, length-toBase}
-
--- the same of every element
-map-same : {A B : Type 0} (f g : A → B) (l : List A) → Every (λ x. f x ≡ g x) l → map f l ≡ map g l
-map-same f g [] e = refl
-map-same {A} {B} f g (x ∷ xs) e = λ i. head e i ∷ map-same f g xs (tail e) i
-
-keep-same : {A : Type 0} (f g : A → Bool) (l : List A) → Every (λ x. f x ≡ g x) l → keep f l ≡ keep g l
-unfolding keep
-keep-same f g [] e = refl
-keep-same {A} f g (x ∷ xs) e = λ i. if-then (head e i) (x ∷ keep-same f g xs (tail e) i) (keep-same f g xs (tail e) i)
 
 -- the same stores made in two files that begin alike
 side-front : (n : ℕ) (ss : List Store) (xs ys : List ℕ) → Front n xs ys → Front n (toSide ss xs) (toSide ss ys)

@@ -7,12 +7,12 @@ use mathlib.Core.Bool.{true}
 use mathlib.Core.Option.{Option, some, none}
 use native.Mathlib.Nat.{mul-comm, mul-le-mul-right}
 use native.Mathlib.Omega.{arith}
-use lib.Dec.{eqb, ltb, leb}
+use lib.Dec.{eqb, leb}
 use lib.ListN.{length, drop}
 use borrow.Author.Tests.{eqb-true, ltb-true, leb-true, le-leb}
 use Rattle.lists.specs.Below.{below}
 use Rattle.lists.specs.Bools.{if-then, both}
-use Rattle.lists.specs.Scans.{Every, head, tail, every-map, allOf-every, first-some}
+use Rattle.lists.specs.Scans.{Every, head, tail, first-some}
 use Rattle.octets.specs.Part.{part, lay}
 use Rattle.octets.specs.Rows.{row-in}
 use Rattle.units.specs.Refusals as Refusals
@@ -22,7 +22,8 @@ use Rattle.units.specs.declared.Place.{Place}
 use Rattle.units.specs.declared.Settings.{Settings}
 use Rattle.sidefile.specs.Accept.{whole-passes, front-passes}
 use Rattle.sidefile.specs.Encode.{imageSum, named, headerOf, indexOf}
-use Rattle.sidefile.specs.Judge.{markTests, headerTests, indexTests, holds, wholeTests, frontTests, heldTests}
+use Rattle.sidefile.specs.Judge.{holds, wholeTests, frontTests, heldTests}
+use Rattle.sidefile.specs.Passed.{held-passed}
 use Rattle.sidefile.specs.declared.Header.{Header}
 use Rattle.sidefile.specs.declared.IndexEntry.{IndexEntry}
 use Rattle.recorder.specs.World.{World}
@@ -133,11 +134,7 @@ settings-same held t h =
 
 -- every entry of a held buffer that passes has a place below M
 places-held : (held : List ℕ) → passes (heldTests held) ≡ true → Every (λ x. x .place .0 < places (headerOf held .settings)) (indexOf held)
-unfolding heldTests indexTests
-places-held held h =
-    let a = (passes-both (headerTests (holds (length held)) held) (indexTests held) ((passes-both (markTests held) (headerTests (holds (length held)) held ++ indexTests held) h .1)) .1) in
-    every-map (λ x k. ltb-true (x .place .0) (places (headerOf held .settings)) k) (indexOf held)
-    (allOf-every (λ x. ltb (x .place .0) (places (headerOf held .settings))) (indexOf held) (head (tail (tail (passes-every (indexTests held) a)))))
+places-held held h = held-passed held h .index .placed
 
 module _ (w v : World) (g : Good w) (l : Lent w v) (held : List ℕ) (room : headerOf held .end ≤ w .state .settings .capacity) (p offset n : ℕ) where
   abbrev hs : Settings

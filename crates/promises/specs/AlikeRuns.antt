@@ -15,6 +15,7 @@ use Rattle.units.specs.Sizes.{sideLength, baseLength, ledgerLength}
 use Rattle.units.specs.declared.Settings.{Settings}
 use Rattle.sidefile.specs.Encode.{headerFor, indexBytes}
 use Rattle.slots.specs.Table.{vacant}
+use Rattle.recorder.specs.Asked.{Opens}
 use Rattle.recorder.specs.Calls.{openState, opened, openReply}
 use Rattle.recorder.specs.Runs.{Call, read, write, grow, close, reply, run, opening, reached}
 use Rattle.recorder.specs.World.{World}
@@ -23,7 +24,7 @@ use Rattle.promises.specs.AlikeCalls.{Both, both-read, both-write, both-
 use Rattle.promises.specs.AlikeClose.{both-close}
 use Rattle.recorder.specs.Facts.{Ruled}
 use Rattle.promises.specs.Fronts.{Front, front-lay}
-use Rattle.promises.specs.Opened.{Opens, open-is, open-vacant, ruled-open}
+use Rattle.promises.specs.Opened.{open-is, open-vacant, ruled-open, open-asked}
 
 -- a call
 both-reply : (c : Call) (w v : World) → Ruled w → Lent w v → Both (reply c w) (reply c (withSlices w v))
@@ -73,12 +74,12 @@ module _ (s : Settings) (end B : ℕ) (w v : World) (base : Front (baseLength s)
 
   pub alike-open : openReply s end B w .number ≡ 0 → openReply s end B v .number ≡ 0 → Alike (openReply s end B w .world) (openReply s end B v .world)
   alike-open h k =
-      let o = open-is s end B w h in
-      let q = open-is s end B v k in
-      subst (λ (u : World). Alike u (openReply s end B v .world)) (sym (o .is))
-      (subst (Alike (opened s end B w)) (sym (q .is))
+      let o = open-asked s end B w h in
+      let q = open-asked s end B v k in
+      subst (λ (u : World). Alike u (openReply s end B v .world)) (sym (open-is s end B w h))
+      (subst (Alike (opened s end B w)) (sym (open-is s end B v k))
       (alike-opened o q
-      (λ i m. ap (λ (u : World). vacant (u .state .slots) i) (sym (o .is)) ∙ open-vacant s end B w h i (omega (arith, limits-within s (o .limited) .slots-most)))))
+      (λ i m. ap (λ (u : World). vacant (u .state .slots) i) (sym (open-is s end B w h)) ∙ open-vacant s end B w h i (omega (arith, limits-within s (o .limited) .slots-most)))))
 
   -- and the same calls after them
   pub alike-reached : ((c : Call) (u : World) → Ruled u → Ruled (reply c u .world)) → openReply s end B w .number ≡ 0 → openReply s end B v .number ≡ 0 → (cs : List Call)

@@ -7,15 +7,15 @@ use mathlib.Core.Bool.{true}
 use mathlib.Core.List.{List, [], _++_, map}
 use native.Mathlib.Omega.{arith}
 use lib.ListN.{length}
-use Rattle.lists.specs.Scans.{allOf}
 use Rattle.octets.specs.Number.{Octets}
 use Rattle.units.specs.Sizes.{top, indexEnd, sideLength}
-use Rattle.units.specs.Tests.{passes, numbered, passes-both, tested-accepted}
+use Rattle.units.specs.Tests.{passes, passes-both, tested-accepted}
 use Rattle.units.specs.declared.Settings.{Settings}
 use Rattle.sidefile.specs.Encode.{indexOf}
 use Rattle.slots.specs.Sits.{Whole}
 use Rattle.ledger.specs.Rowed.{small-entriesIn}
 use Rattle.ledger.specs.View.{indexed}
+use Rattle.recorder.specs.Asked.{numbered-span, numbered-grow}
 use Rattle.recorder.specs.World.{World, refuse, entriesOf}
 use Rattle.recorder.specs.Rules.{rules, kindRules, standing}
 use Rattle.recorder.specs.Calls.{spanTests, growTests, openReply, readReply, writeReply, growReply}
@@ -39,15 +39,6 @@ pub record Typed (w : World) : Type 0 where
 pub ruled : (w : World) → Typed w → passes (standing w) ≡ true → Ruled w
 unfolding entriesOf
 ruled w t h = passes-ruled w (t .whole) (t .tick) (small-entriesIn (w .state .entries) (w .ledger) (t .octets)) h
-
-module _ (w : World) where
-  numbered-span : (p offset n : ℕ) → allOf numbered (standing w ++ spanTests w p offset n) ≡ true
-  unfolding allOf standing spanTests
-  numbered-span p offset n = refl
-
-  numbered-grow : (kind : ℕ) → allOf numbered (standing w ++ growTests w kind) ≡ true
-  unfolding allOf standing growTests
-  numbered-grow kind = refl
 
 -- an accepted call has passed the tests that every call begins with
 pub accepted-standing : (c : Call) (w : World) → reply c w .number ≡ 0 → passes (standing w) ≡ true

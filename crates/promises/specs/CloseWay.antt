@@ -1,15 +1,12 @@
 -- The ways that a close can go: refused with the world as it was, or accepted, with what its tests say. Assumes nothing.
 use Prim.Native.Nat.{_<_}
 use mathlib.Core.Path.{_≡_, refl, sym, ap, subst}
-use mathlib.Core.Bool.{true, _&&_}
+use mathlib.Core.Bool.{true}
 use mathlib.Core.List.{[], _++_}
 use native.Mathlib.Decide.{ℕ-discrete}
-use lib.Dec.{ltb}
-use borrow.Author.Tests.{ltb-true}
-use Rattle.lists.specs.Bools.{both}
-use Rattle.lists.specs.Scans.{allOf}
 use Rattle.units.specs.Sizes.{top}
-use Rattle.units.specs.Tests.{passes, tested-passes, numbered, passes-both, tested-accepted}
+use Rattle.units.specs.Tests.{passes, tested-passes, passes-both, tested-accepted}
+use Rattle.recorder.specs.Asked.{numbered-close, close-facts}
 use Rattle.recorder.specs.World.{World, Reply, refuse, accept}
 use Rattle.recorder.specs.Rules.{standing}
 use Rattle.recorder.specs.Close.{closed, suffices, closeTests, closeReply}
@@ -24,19 +21,15 @@ pub record Closes (w : World) : Type 0 where
   pub is : closeReply w .world ≡ closed w
 
 module _ (w : World) where
-  numbered-close : allOf numbered (standing w ++ closeTests w) ≡ true
-  unfolding allOf standing closeTests
-  numbered-close = refl
-
   pub close-accepted : closeReply w .number ≡ 0 → Closes w
-  unfolding closeReply passes closeTests
+  unfolding closeReply
   close-accepted h =
-      let p = tested-accepted (refuse w []) (accept (closed w) []) (λ r. r .number) (λ n. refl) (standing w ++ closeTests w) numbered-close h in
-      let a = both (ltb (w .state .closed .0) top) (suffices w && true) ((passes-both (standing w) (closeTests w) p .1)) in
+      let p = tested-accepted (refuse w []) (accept (closed w) []) (λ r. r .number) (λ n. refl) (standing w ++ closeTests w) (numbered-close w) h in
+      let a = close-facts w (passes-both (standing w) (closeTests w) p .1) in
       record {
         passed = p;
-        early = ltb-true (w .state .closed .0) top (a .0);
-        enough = both (suffices w) true (a .1) .0;
+        early = a .0;
+        enough = a .1;
         is = ap (λ (r : Reply). r .world) (tested-passes (refuse w []) (accept (closed w) []) (standing w ++ closeTests w) p);
       }
 

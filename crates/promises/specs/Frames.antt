@@ -10,12 +10,12 @@ use lib.Seq.{getD-set-same, getD-set-other}
 use Rattle.octets.specs.Part.{part, lay, length-lay, part-part, part-lay-in, part-lay-before, part-lay-after}
 use Rattle.octets.specs.Rows.{row, page, row-in, row-laid, row-other}
 use Rattle.slots.specs.declared.Slots.{Slots}
+use Rattle.recorder.specs.Asked.{Span}
 use Rattle.recorder.specs.World.{World, setEnd, setSlots, setMeta, setRaw, setState, setBase, setBuffer, setKinds, pageSize, kindOf, baseBytes}
 use Rattle.recorder.specs.Calls.{spanIn, laidIn, zeroPage}
 use Rattle.recorder.specs.declared.Counts.{Counts}
 use Rattle.recorder.specs.Facts.{Ruled}
 use Rattle.promises.specs.Good.{Quiet}
-use Rattle.promises.specs.Ways.{Span}
 
 -- a span read inside page k of a file
 pub span-read : (P k offset : ℕ) (xs : List ℕ) (n : ℕ) → offset + n ≤ P → part (page P k xs) offset n ≡ spanIn P xs k offset n

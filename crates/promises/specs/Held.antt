@@ -17,6 +17,7 @@ use Rattle.octets.specs.Rows.{page}
 use Rattle.units.specs.Bounds.{limits-within}
 use Rattle.units.specs.declared.Settings.{Settings}
 use Rattle.slots.specs.Moves.{no-slots-absent}
+use Rattle.recorder.specs.Asked.{Opens}
 use Rattle.recorder.specs.World.{World, pageSize, kindOf, metadata, baseBytes, slotFor}
 use Rattle.recorder.specs.Calls.{openState, opened, readReply, writeReply, growReply}
 use Rattle.recorder.specs.Close.{closed, closeReply}
@@ -27,7 +28,7 @@ use Rattle.promises.specs.CloseWay.{close-by}
 use Rattle.recorder.specs.Closed.{settings-closed, end-closed, kinds-closed}
 use Rattle.promises.specs.ClosedFiles.{contents-closed}
 use Rattle.promises.specs.Contents.{contents-base}
-use Rattle.promises.specs.Opened.{Opens, open-is}
+use Rattle.promises.specs.Opened.{open-is, open-asked}
 use Rattle.promises.specs.Quieted.{quiet-read, quiet-write, quiet-grow}
 use Rattle.promises.specs.Reading.{contents-read, read-end, read-contents, read-span}
 use Rattle.promises.specs.Writing.{contents-write, contents-write-other, contents-write-raw, write-end, write-refused, write-span}
@@ -202,8 +203,8 @@ holds-opened s end B w o =
 holds-opening : (r : Recording) → opening r .number ≡ 0 → Holds (opening r .world) (r .lent .base)
 unfolding opening
 holds-opening r a =
-    let o = open-is (r .settings) (r .end) (r .tick) (r .lent) a in
-    subst (λ (w : World). Holds w (r .lent .base)) (sym (o .is)) (holds-opened (r .settings) (r .end) (r .tick) (r .lent) o)
+    let o = open-asked (r .settings) (r .end) (r .tick) (r .lent) a in
+    subst (λ (w : World). Holds w (r .lent .base)) (sym (open-is (r .settings) (r .end) (r .tick) (r .lent) a)) (holds-opened (r .settings) (r .end) (r .tick) (r .lent) o)
 
 -- what the calls made of a page is what the recorder has of it
 pub held-contents : (r : Recording) → opening r .number ≡ 0 → (p : ℕ) → p < reached r .state .end → kindOf (reached r) p ≡ 0

@@ -2,21 +2,21 @@
 -- that open took serve every later call. Assumes nothing.
 use Prim.Native.Nat.{ℕ, _≤_}
 use mathlib.Core.Path.{_≡_, refl, sym, subst}
-use mathlib.Core.Bool.{Bool, true, false}
-use mathlib.Core.List.{List, [], _∷_, _++_}
+use mathlib.Core.Bool.{Bool, true}
+use mathlib.Core.List.{List, [], _++_}
 use mathlib.Core.Logic.{_⊎_, inl, inr}
 use mathlib.Core.Option.{Option, some, none}
 use native.Mathlib.Omega.{arith}
 use lib.Dec.{eqb, leb}
 use borrow.Author.Tests.{leb-true}
 use lib.ListN.{length}
-use Rattle.lists.specs.Bools.{if-then, both}
+use Rattle.lists.specs.Bools.{if-has}
 use Rattle.lists.specs.Scans.{allOf}
-use Rattle.units.specs.Tests.{Test, tested, tested-behind}
-use Rattle.slots.specs.Table.{Seat, seated}
-use Rattle.recorder.specs.World.{World, Reply, refuse, slotCount, metadata}
+use Rattle.units.specs.Tests.{Test, tested, tested-behind, tested-by}
+use Rattle.slots.specs.Table.{Seat}
+use Rattle.recorder.specs.World.{World, Reply, refuse, metadata}
 use Rattle.recorder.specs.Rules.{standing}
-use Rattle.recorder.specs.Calls.{spanTests, unclean, Found, hit, miss, nowhere, found, readFound, readReply, writeFound, writeReply, growTests, growSeated, growReply}
+use Rattle.recorder.specs.Calls.{spanTests, Found, hit, miss, nowhere, found, readFound, readReply, writeFound, writeReply, growTests, growSeated, growReply, seatFor}
 use Rattle.recorder.specs.Close.{closeTests, closeReply}
 use Rattle.recorder.specs.Runs.{Call, read, write, grow, close, reply, Recording, opening, reached}
 use Rattle.recorder.specs.Facts.{Ruled, ruled-passes}
@@ -32,19 +32,7 @@ high t = leb 4 (t .0)
 
 -- what is answered is one of the refusals, or what is answered if all tests pass
 listed : (w : World) (bs : List ℕ) (r : Reply) (ts : List Test) → allOf high ts ≡ true → Fine r → Fine (tested ts (refuse w bs) r)
-unfolding tested allOf
-listed w bs r [] e h = h
-listed w bs r (t ∷ ts) e h =
-    let b = both (high t) (allOf high ts) e in
-    go (t .1) (leb-true 4 (t .0) (b .0)) (listed w bs r ts (b .1) h)
-  where
-    go : (b : Bool) → 4 ≤ t .0 → Fine (tested ts (refuse w bs) r) → Fine (if-then b (tested ts (refuse w bs) r) (refuse w bs (t .0)))
-    go true k ih = ih
-    go false k ih = inr k
-
-either : {R : Type 0} (P : R → Type 0) (b : Bool) (x y : R) → P x → P y → P (if-then b x y)
-either P true x y h k = h
-either P false x y h k = k
+listed w bs r ts e h = tested-by (refuse w bs) r Fine (leb 4) ts e (λ n k. inr (leb-true 4 n k)) (λ p. h)
 
 module _ (w : World) where
   high-span : (p offset n : ℕ) → allOf high (spanTests w p offset n) ≡ true
@@ -84,13 +72,13 @@ pub never-broken : (c : Call) (w : World) → Ruled w → (reply c w .number ≡
 unfolding reply readReply writeReply growReply closeReply
 never-broken (read p offset into) w d =
     behind w d into _ (spanTests w p offset (length into)) (high-span w p offset (length into))
-    (either Fine (metadata w p) _ _ (read-found w p offset (length into) (found w p)) (inl refl))
+    (if-has Fine (metadata w p) _ _ (read-found w p offset (length into) (found w p)) (inl refl))
 never-broken (write p offset bs) w d =
     behind w d bs _ (spanTests w p offset (length bs)) (high-span w p offset (length bs))
-    (either Fine (metadata w p) _ _ (write-found w p offset bs (found w p)) (inl refl))
+    (if-has Fine (metadata w p) _ _ (write-found w p offset bs (found w p)) (inl refl))
 never-broken (grow kind) w d =
     behind w d [] _ (growTests w kind) (high-grow w kind)
-    (either Fine (eqb kind 0) _ _ (grow-seated w (seated (slotCount w) (unclean w) (w .state .end) (w .state .slots))) (inl refl))
+    (if-has Fine (eqb kind 0) _ _ (grow-seated w (seatFor w (w .state .end))) (inl refl))
 never-broken close w d = behind w d [] _ (closeTests w) (high-close w) (inl refl)
 
 pub never-three : (r : Recording) → opening r .number ≡ 0 → (c : Call) → reply c (reached r) .number ≡ 3 → ⊥

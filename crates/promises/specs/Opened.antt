@@ -1,19 +1,19 @@
 -- An accepted open makes a good world, whatever world it is lent: header and index are those of an empty index at tick B, the
 -- ledger has no entry and no retired place, every slot is empty. Assumes nothing.
-use Prim.Native.Nat.{ℕ, zero, suc, _<_, _≤_}
+use Prim.Native.Nat.{ℕ, zero, suc, _<_}
 use mathlib.Core.Path.{_≡_, refl, _∙_, sym, ap, subst}
-use mathlib.Core.Bool.{true, false, _&&_}
+use mathlib.Core.Bool.{true, false}
 use mathlib.Core.List.{List, [], _∷_, _++_}
 use native.Mathlib.Omega.{arith}
-use lib.Dec.{ltb, leb}
+use lib.Dec.{ltb}
 use lib.ListN.{length, take, getD, replicate}
-use borrow.Author.Tests.{ltb-true, leb-true}
+use borrow.Author.Tests.{ltb-true}
 use Rattle.lists.specs.Bools.{both, not-both}
 use Rattle.lists.specs.Scans.{Every, done, allOf}
 use Rattle.octets.specs.Part.{part, length-lay, part-lay-same}
 use Rattle.units.specs.Ages.{tick}
 use Rattle.units.specs.Bounds.{Within, limits-within, firstImage-least}
-use Rattle.units.specs.Sizes.{top, limits, indexEnd, ledgerLength}
+use Rattle.units.specs.Sizes.{indexEnd, ledgerLength}
 use Rattle.units.specs.Tests.{passes, tested-passes, tested-accepted}
 use Rattle.units.specs.declared.Settings.{Settings}
 use Rattle.sidefile.specs.Encode.{headerFor, indexBytes}
@@ -25,10 +25,10 @@ use Rattle.slots.specs.Table.{vacant, changedAt, noSlots}
 use Rattle.ledger.specs.Placed.{ledgerOpened, opened-entries, opened-free}
 use Rattle.ledger.specs.View.{retired}
 use Rattle.ledger.specs.declared.Entry.{Entry}
-use Rattle.recorder.specs.World.{World, Reply, refuse, accept, setState, zeroState, entriesOf, kindOf}
-use Rattle.recorder.specs.Rules.{longEnough}
+use Rattle.recorder.specs.Asked.{Opens, numbered-open, open-facts}
+use Rattle.recorder.specs.World.{World, Reply, refuse, accept, setState, zeroState, entriesOf}
 use Rattle.recorder.specs.Calls.{openState, openTests, opened, openReply}
-use Rattle.recorder.specs.Facts.{RuleFacts, Lengths, long-facts, KindFacts, Ruled}
+use Rattle.recorder.specs.Facts.{RuleFacts, Lengths, KindFacts, Ruled}
 use Rattle.promises.specs.Good.{frontAt, Good}
 
 -- kind bytes that are all 0 or 1; past the table's end a kind reads as 0
@@ -44,37 +44,18 @@ whole-none : Whole noSlots
 unfolding noSlots
 whole-none = record { pages = refl; changed = refl; order = refl }
 
-module _ (s : Settings) (end B : ℕ) (w : World) where
-  -- what an accepted open has tested, and what it is
-  pub record Opens : Type 0 where
-    pub limited : limits s ≡ true
-    pub ended : end ≤ s .capacity
-    pub early : B ≤ top
-    pub lengths : Lengths s w
-    pub ledger-long : ledgerLength s ≤ length (w .ledger)
-    pub two : (p : ℕ) → p < end → kindOf w p < 2
-    pub is : openReply s end B w .world ≡ opened s end B w
+-- an accepted open: what its tests say, and the world after it
+module _ (s : Settings) (end B : ℕ) (w : World) (h : openReply s end B w .number ≡ 0) where
+  open-passes : passes (openTests s end B w) ≡ true
+  unfolding openReply
+  open-passes = tested-accepted (refuse (setState zeroState w) []) (accept (opened s end B w) []) (λ r. r .number) (λ n. refl) (openTests s end B w) (numbered-open s end B w) h
 
-  pub open-is : openReply s end B w .number ≡ 0 → Opens
-  unfolding openReply openTests passes allOf
-  open-is h =
-      let t : passes (openTests s end B w) ≡ true =
-      tested-accepted (refuse (setState zeroState w) []) (accept (opened s end B w) []) (λ r. r .number) (λ n. refl) (openTests s end B w) refl h in
-      let a = both (limits s && leb end (s .capacity) && leb B top) _ t in
-      let b = both (longEnough s w && leb (ledgerLength s) (length (w .ledger))) _ (a .1) in
-      let c = both (allOf (λ k. ltb k 2) (take end (w .kinds))) true (b .1) in
-      let l = both (longEnough s w) (leb (ledgerLength s) (length (w .ledger))) (b .0) in
-      let m = both (limits s && leb end (s .capacity)) (leb B top) (a .0) in
-      let n = both (limits s) (leb end (s .capacity)) (m .0) in
-      record {
-        limited = n .0;
-        ended = leb-true end (s .capacity) (n .1);
-        early = leb-true B top (m .1);
-        lengths = long-facts s w (l .0);
-        ledger-long = leb-true (ledgerLength s) (length (w .ledger)) (l .1);
-        two = kinds-two end (w .kinds) (c .0);
-        is = ap (λ (r : Reply). r .world) (tested-passes (refuse (setState zeroState w) []) (accept (opened s end B w) []) (openTests s end B w) t);
-      }
+  pub open-asked : Opens s end B w
+  open-asked = open-facts s end B w open-passes
+
+  pub open-is : openReply s end B w .world ≡ opened s end B w
+  unfolding openReply
+  open-is = ap (λ (r : Reply). r .world) (tested-passes (refuse (setState zeroState w) []) (accept (opened s end B w) []) (openTests s end B w) open-passes)
 
 -- The opened world.
 module _ (s : Settings) (end B : ℕ) (w : World) where
@@ -159,7 +140,7 @@ module _ (s : Settings) (end B : ℕ) (w : World) where
     good-opened =
         record {
           ruled = ruled-opened;
-          two = o .two;
+          two = kinds-two end (w .kinds) (o .kinds);
           ending = end;
           ended = omega arith;
           front = opened-front;
@@ -176,10 +157,10 @@ module _ (s : Settings) (end B : ℕ) (w : World) (h : openReply s end B w .numb
   after = openReply s end B w .world
 
   opens : Opens s end B w
-  opens = open-is s end B w h
+  opens = open-asked s end B w h
 
   same : after ≡ opened s end B w
-  same = opens .is
+  same = open-is s end B w h
 
   pub ruled-open : Ruled after
   ruled-open = subst Ruled (sym same) (ruled-opened s end B w opens)

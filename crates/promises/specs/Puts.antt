@@ -9,13 +9,13 @@ use mathlib.Core.Bool.{Bool, true, false}
 use mathlib.Core.Option.{Option, some, none}
 use native.Mathlib.Omega.{arith}
 use native.Mathlib.Decide.{ℕ-discrete, decLt}
-use lib.ListN.{length, getD, length-set}
+use lib.ListN.{length, getD}
 use Rattle.lists.specs.Bools.{not-both, true-of, or-false}
 use Rattle.lists.specs.Scans.{every-map, every-two}
 use Rattle.octets.specs.Rows.{page}
-use Rattle.slots.specs.Moves.{Placed, vacant-other, slot-new, slot-kept, slot-still, slot-gone, placed-sits, mark-same, mark-here, mark-other}
+use Rattle.slots.specs.Moves.{Placed, vacant-other, slot-new, slot-kept, slot-still, slot-gone, placed-sits}
 use Rattle.slots.specs.Sits.{Alone, changed-found}
-use Rattle.slots.specs.Table.{pageAt, vacant, changedAt, slotOf, changedPage, uses, marked}
+use Rattle.slots.specs.Table.{pageAt, vacant, changedAt, slotOf, changedPage}
 use Rattle.slots.specs.declared.Slots.{Slots}
 use Rattle.ledger.specs.Aged.{owed-pages}
 use Rattle.ledger.specs.Entries.{pageOf}
@@ -48,20 +48,6 @@ pub record Put (w : World) (end : ℕ) (t : Slots) (base buffer kinds : List ℕ
 pub clean-slot : (w : World) (i : ℕ) → unclean w i ≡ false → (changedAt (w .state .slots) i ≡ false) × (owedIn w (pageAt (w .state .slots) i) ≡ false)
 unfolding unclean
 clean-slot w i h = or-false (changedAt (w .state .slots) i) (owedIn w (pageAt (w .state .slots) i)) h
-
--- the same with the page changed
-pub mark-placed : {t t′ : Slots} {i p : ℕ} {c : Bool} → Placed t t′ i p c → i < 16 → Placed t (marked i t′) i p true
-unfolding marked uses
-mark-placed {t} {t′} {i} q h =
-    record {
-      whole = record { pages = q .whole .pages; changed = length-set (t′ .changed) i 1 ∙ q .whole .changed; order = q .whole .order };
-      used = q .used;
-      order = q .order;
-      page-here = mark-same t′ i .page i ∙ q .page-here;
-      page-other = λ j n. mark-same t′ i .page j ∙ q .page-other j n;
-      changed-here = mark-here t′ i (q .whole) h;
-      changed-other = λ j n. mark-other t′ i j n ∙ q .changed-other j n;
-    }
 
 module _ (w : World) (r : Ruled w) {end : ℕ} {t : Slots} {base buffer kinds : List ℕ} {p slot : ℕ} {c : Bool} {bs : List ℕ}
     (u : Put w end t base buffer kinds p slot c bs) where

@@ -9,11 +9,12 @@ use native.Mathlib.Decide.{ℕ-discrete}
 use lib.ListN.{length}
 use Rattle.octets.specs.Part.{part}
 use Rattle.octets.specs.Rows.{page}
+use Rattle.recorder.specs.Asked.{Span}
 use Rattle.recorder.specs.World.{World, Reply, pageSize, kindOf, slotBytes, baseBytes}
 use Rattle.recorder.specs.Calls.{hitWorld, missWorld, metaBypass, rawBypass, readReply}
 use Rattle.recorder.specs.Facts.{Ruled}
 use Rattle.promises.specs.Good.{contents, Good}
-use Rattle.promises.specs.Ways.{Span, Reads, refused, hit, miss, bypass, raw, read-way}
+use Rattle.promises.specs.Ways.{Reads, refused, hit, miss, bypass, raw, read-way}
 use Rattle.promises.specs.Frames.{span-read}
 use Rattle.promises.specs.Contents.{contents-slot, contents-base}
 use Rattle.promises.specs.Steps.{ruled-step, good-step, step-here, step-other}

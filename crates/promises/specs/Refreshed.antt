@@ -12,16 +12,17 @@ use lib.ListN.{length, drop, getD, length-map, List·getD-append}
 use lib.Seq.{getD-append-add, getD-drop}
 use borrow.Author.Tests.{lt-ltb, le-leb, eqb-true, ltb-true, leb-true}
 use Rattle.lists.specs.Below.{below, length-from, get-from}
-use Rattle.lists.specs.Bools.{if-then, both, and-make}
-use Rattle.lists.specs.Scans.{head, tail, allOf, anyOf, first, none-first}
+use Rattle.lists.specs.Bools.{if-then, both, and-make, or-no}
+use Rattle.lists.specs.Scans.{allOf, anyOf, first, none-first}
 use Rattle.octets.specs.Part.{part, lay}
 use Rattle.units.specs.Refusals as Refusals
 use Rattle.units.specs.Sizes.{wait, entries, indexEnd}
-use Rattle.units.specs.Tests.{passes, tested-passes, passes-append, passes-both, passes-every, tested-accepted}
+use Rattle.units.specs.Tests.{passes, tested-passes, passes-append, passes-both, tested-accepted}
 use Rattle.units.specs.declared.Settings.{Settings}
 use Rattle.units.specs.declared.Tick.{Tick}
 use Rattle.sidefile.specs.Encode.{headerOf, indexOf}
 use Rattle.sidefile.specs.Judge.{ascending, holds, markTests, headerTests, indexTests, wholeTests, heldTests}
+use Rattle.sidefile.specs.Passed.{held-passed}
 use Rattle.sidefile.specs.declared.Header.{Header}
 use Rattle.sidefile.specs.declared.IndexEntry.{IndexEntry}
 use Rattle.ledger.specs.Entries.{pageOf, has, find}
@@ -37,11 +38,7 @@ use Rattle.promises.specs.Lagging.{InLag, settings-held, lag-held}
 
 -- a held buffer that passes its tests has the length that its settings ask for
 held-fits : (held : List ℕ) → passes (heldTests held) ≡ true → indexEnd (headerOf held .settings) ≤ length held
-unfolding heldTests headerTests
-held-fits held h =
-    let r = passes-both (markTests held) (headerTests (holds (length held)) held ++ indexTests held) h .1 in
-    let e = passes-every (headerTests (holds (length held)) held) (passes-both (headerTests (holds (length held)) held) (indexTests held) r .0) in
-    leb-true (indexEnd (headerOf held .settings)) (length held) (head (tail (tail (tail e))))
+held-fits held h = leb-true (indexEnd (headerOf held .settings)) (length held) (held-passed held h .front .header .asked)
 
 -- and of equal settings as much is held
 index-same : (s t : Settings) → sameSettings s t ≡ true → indexEnd s ≡ indexEnd t
@@ -95,16 +92,12 @@ any-since t p low (x ∷ xs) a =
     rest : Bool
     rest = anyOf (λ x. eqb (x .page .0) p && ltb (t .0) (x .changed .0)) (map indexed xs)
 
-    or-none : (a b : Bool) → b ≡ false → (a || b) ≡ a
-    or-none true b e = refl
-    or-none false b e = e
-
     go : (b : Bool) → eqb (pageOf x) p ≡ b → rest ≡ changedSince t (find p xs)
         → (b && ltb (t .0) (x .changed .0) || rest) ≡ changedSince t (if-then b (some x) (find p xs))
     go true q ih =
         let z = eqb-true (pageOf x) p q in
         let n : find p xs ≡ none = none-first (has p) xs (subst (λ (p : ℕ). anyOf (has p) xs ≡ false) z (asc-once low x xs a)) in
-        or-none (ltb (t .0) (x .changed .0)) rest (ih ∙ ap (changedSince t) n)
+        ap (λ (b : Bool). ltb (t .0) (x .changed .0) || b) (ih ∙ ap (changedSince t) n) ∙ or-no (ltb (t .0) (x .changed .0))
     go false q ih = ih
 
 pub mark-find : (t : Tick) (p : ℕ) (es : List Entry) → ascending 0 (map indexed es) ≡ true

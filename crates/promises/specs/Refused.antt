@@ -2,32 +2,26 @@
 -- accepted call says of its tests. Assumes nothing.
 use Prim.Native.Nat.{ℕ}
 use mathlib.Core.Path.{_≡_, refl}
-use mathlib.Core.Bool.{Bool, true, false}
 use mathlib.Core.List.{List, [], _++_}
 use mathlib.Core.Logic.{_⊎_, inl, inr}
 use mathlib.Core.Option.{Option, some, none}
 use lib.Dec.{eqb}
 use lib.ListN.{length}
-use Rattle.lists.specs.Bools.{if-then}
+use Rattle.lists.specs.Bools.{if-has}
 use Rattle.octets.specs.Part.{part}
 use Rattle.units.specs.Sizes.{imageAt}
 use Rattle.units.specs.Tests.{Test, tested, tested-has}
 use Rattle.units.specs.declared.Settings.{Settings}
 use Rattle.sidefile.specs.Encode.{imageSum, headerOf, indexOf}
 use Rattle.sidefile.specs.declared.IndexEntry.{IndexEntry}
-use Rattle.slots.specs.Table.{Seat, seated}
-use Rattle.recorder.specs.World.{World, Reply, refuse, accept, setState, zeroState, slotCount, metadata}
+use Rattle.slots.specs.Table.{Seat}
+use Rattle.recorder.specs.World.{World, Reply, refuse, accept, setState, zeroState, metadata}
 use Rattle.recorder.specs.Rules.{standing}
-use Rattle.recorder.specs.Calls.{Found, hit, miss, nowhere, found, unclean, spanTests, openTests, opened, openReply, readFound, readReply, writeFound, writeReply, growTests, growSeated, growReply}
+use Rattle.recorder.specs.Calls.{Found, hit, miss, nowhere, found, spanTests, openTests, opened, openReply, readFound, readReply, writeFound, writeReply, growTests, growSeated, growReply, seatFor}
 use Rattle.recorder.specs.Close.{closeTests, closeReply}
 use Rattle.recorder.specs.Runs.{Call, read, write, grow, close, reply}
 use Rattle.desk.specs.Take.{Taken, untaken, takeTests, takeReply, refreshTests, refreshReply}
 use Rattle.desk.specs.Read.{Answer, refused, readTests, heldEntry, located, deskRead}
-
--- what holds of both answers holds of the one that is chosen
-if-has : {R : Type 0} (P : R → Type 0) (b : Bool) (r s : R) → P r → P s → P (if-then b r s)
-if-has P true r s h k = h
-if-has P false r s h k = k
 
 -- The recorder's calls: accepted, or with the world and the caller's slice that were given.
 
@@ -74,7 +68,7 @@ fair (write p offset bs) w =
     (standing w ++ spanTests w p offset (length bs))
 fair (grow kind) w =
     fair-tested w [] _
-    (if-has (Fair w []) (eqb kind 0) _ _ (fair-grow w (seated (slotCount w) (unclean w) (w .state .end) (w .state .slots))) (inl refl))
+    (if-has (Fair w []) (eqb kind 0) _ _ (fair-grow w (seatFor w (w .state .end))) (inl refl))
     (standing w ++ growTests w kind)
 fair close w = fair-tested w [] _ (inl refl) (standing w ++ closeTests w)
 

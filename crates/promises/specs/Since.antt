@@ -9,10 +9,9 @@ use mathlib.Core.Option.{Option, some, none}
 use native.Mathlib.Omega.{arith}
 use native.Mathlib.Decide.{ℕ-discrete, decLt}
 use lib.ListN.{getD}
-use borrow.Author.Tests.{eqb-true}
 use Rattle.lists.specs.Bools.{if-then, not-both, false-of}
 use Rattle.lists.specs.Scans.{anyOf, first-none}
-use Rattle.units.specs.Ages.{tick, leaves, leaves-exactly}
+use Rattle.units.specs.Ages.{tick, leaves-late, leaves}
 use Rattle.units.specs.Sizes.{top, wait}
 use Rattle.units.specs.declared.Tick.{Tick}
 use Rattle.ledger.specs.Aged.{goes-unchanged}
@@ -43,13 +42,6 @@ pub data Since (w₀ : World) (p : ℕ) (w : World) : Type 0 where
 -- every metadata page in the file
 abbrev pub AllSince : World → World → Type 0
 AllSince w₀ w = (p : ℕ) → p < w .state .end → kindOf w p ≡ 0 → Since w₀ p w
-
--- what changed after t does not leave at a close N within the wait and one of t
-leaves-late : (n t : ℕ) (last : Tick) (N : ℕ) → t < last .0 → last .0 ≤ N → N ≤ t + n + 1 → leaves n last false (tick N) ≡ true → ⊥
-leaves-late n t last N a b c h =
-    let k : ℕ = N - last .0 in
-    let e : last .0 + k ≡ N = omega arith in
-    omega (arith, eqb-true k (n + 1) (sym (leaves-exactly n (last .0) k) ∙ ap (λ (m : ℕ). leaves n last false (tick m)) e ∙ h))
 
 -- a read, a write or a grow that leaves the contents of the page
 module _ (w₀ w v : World) (p : ℕ) (q : Quiet w v) (stays : changedIn w p ≡ true → changedIn v p ≡ true) (e : contents v p ≡ contents w p) where
@@ -134,8 +126,9 @@ module _ (w₀ w : World) (g : Good w) (since : w₀ .state .closed .0 ≤ w .st
       stays : gives (closingOf w) e ≡ false
       stays =
           false-of (gives (closingOf w) e)
-          (λ y. leaves-late (waitOf w) (w₀ .state .closed .0) (e .changed) (w .state .closed .0 + 1) h (omega (arith, found .1)) (omega arith)
-          (ap (λ (b : Bool). leaves (waitOf w) (e .changed) b (openTick w)) (sym unchanged) ∙ goes-unchanged (waitOf w) (changedIn w) e (openTick w) y unchanged))
+          (λ y. not-both (leaves (waitOf w) (e .changed) false (openTick w))
+          (ap (λ (b : Bool). leaves (waitOf w) (e .changed) b (openTick w)) (sym unchanged) ∙ goes-unchanged (waitOf w) (changedIn w) e (openTick w) y unchanged)
+          (leaves-late (waitOf w) (w₀ .state .closed .0) (e .changed) (openTick w) h (omega arith)))
 
   since-closed : Since w₀ p w → Since w₀ p (closed w)
   since-closed (same b₀ h) = same b₀ (contents-closed w (g .ruled) sf lt p ∙ h)

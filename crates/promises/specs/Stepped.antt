@@ -11,19 +11,20 @@ use lib.ListN.{length, getD, set, length-replicate}
 use borrow.Author.Tests.{ne-eqb}
 use Rattle.lists.specs.Bools.{if-then, not-both}
 use Rattle.octets.specs.Part.{lay, length-lay}
-use Rattle.slots.specs.Moves.{Placed, touch-placed}
+use Rattle.slots.specs.Moves.{Placed, touch-placed, mark-placed}
 use Rattle.slots.specs.Seats.{Seated, seat-taken}
 use Rattle.slots.specs.Sits.{absent-alone, slot-alone, slot-beyond, changed-none, changed-found}
 use Rattle.slots.specs.Table.{Seat, noPage, vacant, changedAt, changedPage, touched, marked}
 use Rattle.slots.specs.declared.Slots.{Slots}
+use Rattle.recorder.specs.Asked.{Span}
 use Rattle.recorder.specs.World.{World, Reply, addHit, addMiss, addEviction, addBypass, pageSize, slotCount, kindOf, slotBytes, baseBytes, slotFor}
-use Rattle.recorder.specs.Calls.{unclean, hitWorld, missWorld, metaBypass, rawBypass, laidIn, readReply, written, writeReply, grown, zeroPage, growSeated, growReply}
+use Rattle.recorder.specs.Calls.{unclean, hitWorld, missWorld, metaBypass, rawBypass, laidIn, readReply, written, writeReply, grown, zeroPage, growSeated, growReply, seatFor}
 use Rattle.recorder.specs.Facts.{Ruled, within, end-small, seats}
 use Rattle.promises.specs.Good.{contents}
-use Rattle.promises.specs.Ways.{Span, seatFor, Reads, Writes, Grows, refused, hit, miss, bypass, raw, seat, read-way, write-way, grow-way}
+use Rattle.promises.specs.Ways.{Reads, Writes, Grows, refused, hit, miss, bypass, raw, seat, read-way, write-way, grow-way}
 use Rattle.promises.specs.Frames.{span-here, span-other, page-here, page-other, Framed, framed-same, framed-raw, kind-new, framed-grow-meta, framed-grow-raw}
 use Rattle.promises.specs.Contents.{slot-of, length-base, contents-slot, contents-base}
-use Rattle.promises.specs.Puts.{Put, mark-placed}
+use Rattle.promises.specs.Puts.{Put}
 use Rattle.promises.specs.Steps.{Still, Step, same, still, put}
 
 -- what page p contains after a write to it was answered by this number

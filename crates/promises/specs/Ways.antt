@@ -1,65 +1,33 @@
 -- The ways that a read, a write or a grow can go: refused, by a number above 0, with the world as it was; or accepted, in one
 -- of a few cases, each with what is known in it. The one place that looks at the tests of these calls: everything said of
 -- their replies goes by these cases. No world is left out, forged ones included. Assumes nothing.
-use Prim.Native.Nat.{ℕ, _+_, _*_, _<_, _≤_}
+use Prim.Native.Nat.{ℕ, _*_, _<_, _≤_}
 use mathlib.Core.Path.{_≡_, refl}
-use mathlib.Core.List.{List, [], _∷_, _++_}
-use mathlib.Core.Bool.{Bool, true, false, _&&_}
+use mathlib.Core.List.{List, [], _++_}
+use mathlib.Core.Bool.{Bool, true, false}
 use mathlib.Core.Option.{Option, some, none}
 use native.Mathlib.Omega.{arith}
-use lib.Dec.{eqb, ltb, leb}
+use lib.Dec.{eqb, ltb}
 use lib.ListN.{length}
-use borrow.Author.Tests.{eqb-true, eqb-false, ltb-true, leb-true}
-use Rattle.lists.specs.Bools.{if-then, both}
+use borrow.Author.Tests.{eqb-true, eqb-false, ltb-true}
+use Rattle.lists.specs.Bools.{if-then}
 use Rattle.lists.specs.Scans.{allOf}
 use Rattle.octets.specs.Part.{lay}
 use Rattle.units.specs.Refusals as Refusals
-use Rattle.units.specs.Tests.{Test, passes, tested, numbered, passes-both}
-use Rattle.slots.specs.Table.{Seat, seated}
-use Rattle.recorder.specs.World.{World, Reply, refuse, accept, pageSize, slotCount, kindOf, metadata, slotFor, setBase}
+use Rattle.units.specs.Tests.{Test, passes, tested, numbered, passes-both, tested-by}
+use Rattle.slots.specs.Table.{Seat}
+use Rattle.recorder.specs.Asked.{Span, numbered-span, span-facts, numbered-grow, grow-facts}
+use Rattle.recorder.specs.World.{World, Reply, refuse, accept, pageSize, kindOf, metadata, slotFor, setBase}
 use Rattle.recorder.specs.Rules.{standing}
-use Rattle.recorder.specs.Calls.{spanTests, unclean, Found, nowhere, foundIn, found, hitWorld, missWorld, metaBypass, rawBypass, spanIn, laidIn, readFound, readReply, written, writeFound, writeReply, growTests, grown, zeroPage, growSeated, growReply}
+use Rattle.recorder.specs.Calls.{spanTests, Found, nowhere, foundIn, found, hitWorld, missWorld, metaBypass, rawBypass, spanIn, laidIn, readFound, readReply, written, writeFound, writeReply, growTests, grown, zeroPage, growSeated, growReply, seatFor}
 
 -- a call whose tests have numbers above 0: refused by such a number, or all of them pass
 module _ (P : Reply → Type 0) (refused : ℕ → Reply) (r : Reply) where
   tries : (ts : List Test) → allOf numbered ts ≡ true → ((n : ℕ) → 1 ≤ n → P (refused n)) → (passes ts ≡ true → P r) → P (tested ts refused r)
-  unfolding allOf passes tested
-  tries [] a f g = g refl
-  tries (t ∷ ts) a f g = let b = both (numbered t) (allOf numbered ts) a in go (t .1) (ltb-true 0 (t .0) (b .0)) g (tries ts (b .1) f)
+  tries ts a f g = tested-by refused r P (ltb 0) ts a high g
     where
-      go : (b : Bool) → 0 < t .0 → ((b && passes ts) ≡ true → P r) → ((passes ts ≡ true → P r) → P (tested ts refused r)) → P (if-then b (tested ts refused r) (refused (t .0)))
-      go true n g ih = ih g
-      go false n g ih = f (t .0) (omega arith)
-
--- what the tests of a span say of it
-pub record Span (w : World) (p offset n : ℕ) : Type 0 where
-  pub low : p < w .state .end
-  pub two : kindOf w p < 2
-  pub some : 1 ≤ n
-  pub inside : offset + n ≤ pageSize w
-
-module _ (w : World) (p offset n : ℕ) where
-  numbered-span : allOf numbered (standing w ++ spanTests w p offset n) ≡ true
-  unfolding allOf standing spanTests
-  numbered-span = refl
-
-  span-facts : passes (standing w ++ spanTests w p offset n) ≡ true → Span w p offset n
-  unfolding passes spanTests
-  span-facts h =
-      let a = both (ltb p (w .state .end)) (ltb (kindOf w p) 2 && ((leb 1 n && leb (offset + n) (pageSize w)) && true)) ((passes-both (standing w) (spanTests w p offset n) h .1)) in
-      let b = both (ltb (kindOf w p) 2) ((leb 1 n && leb (offset + n) (pageSize w)) && true) (a .1) in
-      let c = both (leb 1 n && leb (offset + n) (pageSize w)) true (b .1) in
-      let d = both (leb 1 n) (leb (offset + n) (pageSize w)) (c .0) in
-      record {
-        low = ltb-true p (w .state .end) (a .0);
-        two = ltb-true (kindOf w p) 2 (b .0);
-        some = leb-true 1 n (d .0);
-        inside = leb-true (offset + n) (pageSize w) (d .1);
-      }
-
--- the slot that a page gets if it is in none
-abbrev pub seatFor : World → ℕ → Option Seat
-seatFor w p = seated (slotCount w) (unclean w) p (w .state .slots)
+      high : (n : ℕ) → ltb 0 n ≡ true → P (refused n)
+      high n h = f n (omega (arith, ltb-true 0 n h))
 
 -- a read
 pub data Reads (w : World) (p offset : ℕ) (into : List ℕ) : Reply → Type 0 where
@@ -103,7 +71,7 @@ module _ (w : World) (p offset : ℕ) where
   unfolding found foundIn
   accesses bs f r P onRefused onHit onMiss onNone onRaw =
       tries P (refuse w bs) (if-then (metadata w p) (f (found w p)) r) (standing w ++ spanTests w p offset (length bs)) (numbered-span w p offset (length bs)) onRefused
-      (λ h. go (span-facts w p offset (length bs) h) (metadata w p) refl)
+      (λ h. go (span-facts w p offset (length bs) (passes-both (standing w) (spanTests w p offset (length bs)) h .1)) (metadata w p) refl)
     where
       at : Span w p offset (length bs) → kindOf w p ≡ 0 → (a : Option ℕ) → slotFor w p ≡ a → (b : Option Seat) → seatFor w p ≡ b → P (f (foundIn a b))
       at s k (some i) e b z = onHit s k i e
@@ -127,24 +95,13 @@ module _ (w : World) (p offset : ℕ) where
       (Writes w p offset bs) refused hit miss (λ s k e. refused Refusals.noSlot (omega arith)) raw
 
 module _ (w : World) (kind : ℕ) where
-  numbered-grow : allOf numbered (standing w ++ growTests w kind) ≡ true
-  unfolding allOf standing growTests
-  numbered-grow = refl
-
-  grow-facts : passes (standing w ++ growTests w kind) ≡ true → (kind < 2) × (w .state .end < w .state .settings .capacity)
-  unfolding passes growTests
-  grow-facts h =
-      let a = both (ltb kind 2) (ltb (w .state .end) (w .state .settings .capacity) && true) ((passes-both (standing w) (growTests w kind) h .1)) in
-      let b = both (ltb (w .state .end) (w .state .settings .capacity)) true (a .1) in
-      (ltb-true kind 2 (a .0), ltb-true (w .state .end) (w .state .settings .capacity) (b .0))
-
   pub grow-way : Grows w kind (growReply kind w)
   unfolding growReply growSeated
   grow-way =
       tries (Grows w kind) (refuse w [])
       (if-then (eqb kind 0) (growSeated w (seatFor w (w .state .end))) (accept (setBase (lay (w .base) (w .state .end * pageSize w) (zeroPage w)) (grown w 1)) []))
-      (standing w ++ growTests w kind) numbered-grow refused
-      (λ h. go (grow-facts h) (eqb kind 0) refl)
+      (standing w ++ growTests w kind) (numbered-grow w kind) refused
+      (λ h. go (grow-facts w kind (passes-both (standing w) (growTests w kind) h .1)) (eqb kind 0) refl)
     where
       at : w .state .end < w .state .settings .capacity → kind ≡ 0 → (o : Option Seat) → seatFor w (w .state .end) ≡ o → Grows w kind (growSeated w o)
       at h k (some x) e = seat h k x e

@@ -7,12 +7,13 @@ use mathlib.Core.List.{List}
 use native.Mathlib.Omega.{arith}
 use lib.ListN.{length}
 use Rattle.octets.specs.Part.{lay}
+use Rattle.recorder.specs.Asked.{Span}
 use Rattle.recorder.specs.World.{World, Reply, kindOf}
 use Rattle.recorder.specs.Calls.{hitWorld, missWorld, rawBypass, written, writeReply}
 use Rattle.recorder.specs.Runs.{write, reply}
 use Rattle.recorder.specs.Facts.{Ruled}
 use Rattle.promises.specs.Good.{contents, Good}
-use Rattle.promises.specs.Ways.{Span, Writes, refused, hit, miss, raw, write-way}
+use Rattle.promises.specs.Ways.{Writes, refused, hit, miss, raw, write-way}
 use Rattle.promises.specs.Refused.{refused-same}
 use Rattle.promises.specs.Steps.{ruled-step, good-step, step-here, step-other}
 use Rattle.promises.specs.Stepped.{wrote, step-write}

@@ -1,32 +1,29 @@
--- A metadata page brought in: what the state rules say of slots and lengths, that a slot taken is one, and the outcome by
--- where the page was found. The world is the part of the recorder's that is lent; the other slices do not matter. Assumes
--- nothing.
+-- A metadata page used: what the state rules say of slots and lengths, that a slot taken is one, and what the code answers by
+-- where the page was found. Assumes nothing.
 use Prim.Native.Nat.{ℕ, _+_, _*_, _<_, _≤_}
-use mathlib.Core.Path.{_≡_, refl, _∙_, sym, ap, subst}
+use mathlib.Core.Path.{_≡_, refl, _∙_, sym, ap}
 use mathlib.Core.Bool.{true, false, false≢true, true≢false}
-use mathlib.Core.List.{List, []}
+use mathlib.Core.List.{[]}
 use mathlib.Core.Option.{Option, some, none}
 use native.Mathlib.Omega.{arith}
 use lib.ListN.{length}
-use Rattle.octets.specs.Part.{part, lay}
-use Rattle.octets.specs.Rows.{row, row-in}
+use Rattle.octets.specs.Rows.{row-in}
 use Rattle.units.specs.Bounds.{Within, limits-within, pages-most}
 use Rattle.units.specs.Sizes.{entryRow, placesAt, ledgerLength}
 use Rattle.slots.specs.Answers.{seating}
 use Rattle.slots.specs.Asked.{Fit, touch-asks}
 use Rattle.slots.specs.Seats.{seat-taken}
-use Rattle.slots.specs.Sits.{Whole, Sits, sits}
-use Rattle.slots.specs.Table.{uses, times, touched, Seat, seated}
+use Rattle.slots.specs.Sits.{Whole, Sits, sits, slot-found, slot-beyond}
+use Rattle.slots.specs.Table.{uses, times, touched, Seat}
 use Rattle.slots.specs.declared.Seating.{Seating}
 use Rattle.slots.specs.declared.Slots.{Slots}
-use Rattle.recorder.specs.Calls.{unclean, Found, hit, miss, nowhere, foundIn, found, hitWorld, missWorld}
+use Rattle.recorder.specs.Calls.{unclean, Found, hit, miss, nowhere, foundIn, found, seatFor}
 use Rattle.recorder.specs.Facts.{rule-facts}
 use Rattle.recorder.specs.Outcome.{lent}
 use Rattle.recorder.specs.Rules.{rules}
-use Rattle.recorder.specs.Using.{used, usedWorld}
-use Rattle.recorder.specs.World.{World, setSlots, setMeta, addHit, addMiss, pageSize, slotCount, entriesOf, slotFor, baseBytes}
-use Rattle.recorder.specs.declared.Counts.{Counts}
-use Rattle.recorder.specs.declared.buffer.Used.{Used}
+use Rattle.recorder.specs.Using.{useOf}
+use Rattle.recorder.specs.World.{World, pageSize, slotCount, entriesOf, slotFor}
+use Rattle.recorder.specs.declared.buffer.Use.{Use}
 
 -- the world of a function that is lent the ledger alone, and what it sees as the whole one does
 abbrev pub alone : World → World
@@ -36,27 +33,26 @@ pub rules-alone : (w : World) → rules (alone w) ≡ rules w
 unfolding rules slotFor
 rules-alone w = refl
 
-pub unclean-alone : (w : World) → unclean (alone w) ≡ unclean w
-unfolding unclean entriesOf
-unclean-alone w = refl
-
--- the slot that a page gets if it is in none
-abbrev pub seatFor : World → ℕ → Option Seat
-seatFor w p = seated (slotCount w) (unclean w) p (w .state .slots)
+found-alone : (w : World) (p : ℕ) → found (alone w) p ≡ found w p
+unfolding found slotFor unclean entriesOf
+found-alone w p = refl
 
 -- where a page is found
 module _ (w : World) (p : ℕ) where
-  pub found-hit : (i : ℕ) → slotFor w p ≡ some i → found w p ≡ hit i
+  found-hit : (i : ℕ) → slotFor w p ≡ some i → found w p ≡ hit i
   unfolding found foundIn
   found-hit i e = rw e
 
-  pub found-miss : slotFor w p ≡ none → (x : Seat) → seatFor w p ≡ some x → found w p ≡ miss x
-  unfolding found foundIn
-  found-miss e x f = rw (e, f)
+  pub found-absent : slotFor w p ≡ none → found w p ≡ foundIn none (seatFor w p)
+  unfolding found
+  found-absent e = rw e
 
-  pub found-nowhere : slotFor w p ≡ none → seatFor w p ≡ none → found w p ≡ nowhere
-  unfolding found foundIn
-  found-nowhere e f = rw (e, f)
+-- the page used, as the code answers it
+abbrev pub useIn : World → ℕ → Use
+useIn w p = useOf (w .state .slots) p (found w p)
+
+pub use-alone : (w : World) (p : ℕ) → useIn (alone w) p ≡ useIn w p
+use-alone w p = ap (useOf (w .state .slots) p) (found-alone w p)
 
 -- what the state rules say
 module _ (w : World) (r : rules w ≡ true) where
@@ -82,13 +78,13 @@ module _ (w : World) (r : rules w ≡ true) where
 
   -- a slot table of whole arrays
   module _ (whole : Whole (w .state .slots)) where
-    pub ruled-sits : Sits (slotCount w) (w .state .end) (w .state .slots)
+    ruled-sits : Sits (slotCount w) (w .state .end) (w .state .slots)
     ruled-sits = sits (slotCount w) (w .state .end) (w .state .slots) whole (ruled-within .slots-most) (rule-facts w r .slots)
 
     pub ruled-fit : Fit (slotCount w) (w .state .slots)
     ruled-fit = (w .state .end, omega (arith, ruled-end), ruled-sits)
 
-    pub seat-slot : (p : ℕ) → p ≤ 65535 → slotFor w p ≡ none → (x : Seat) → seatFor w p ≡ some x → x .slot < slotCount w
+    seat-slot : (p : ℕ) → p ≤ 65535 → slotFor w p ≡ none → (x : Seat) → seatFor w p ≡ some x → x .slot < slotCount w
     unfolding slotFor
     seat-slot p b e x f = seat-taken ruled-sits (unclean w) p 4294967295 e (omega arith) (omega (arith, ruled-end)) (omega arith) x f .slot
 
@@ -96,64 +92,49 @@ module _ (w : World) (r : rules w ≡ true) where
     unfolding slotFor
     touch-fits p i b e = touch-asks ruled-sits p i (omega arith) e
 
--- a seating says what seat there is
-module _ (t : Slots) where
-  pub seating-none : (r : Seating) (o : Option Seat) → r ≡ seating t o → r .found ≡ false → o ≡ none
-  seating-none r none e f = refl
-  seating-none r (some x) e f = absurd (false≢true (sym f ∙ ap (λ (r : Seating). r .found) e))
+    -- the slot of a page used; a page past the last is in none
+    pub use-slot : (p : ℕ) → p ≤ 65535 → (u : Use) → u ≡ useIn w p → u .found ≡ true → u .slot < slotCount w
+    unfolding found foundIn slotFor
+    use-slot p b u h y = rw (ap (λ (u : Use). u .slot) h) (go (slotFor w p) refl (seatFor w p) refl (sym (ap (λ (u : Use). u .found) h) ∙ y))
+      where
+        go : (o : Option ℕ) → slotFor w p ≡ o → (q : Option Seat) → seatFor w p ≡ q
+            → useOf (w .state .slots) p (foundIn o q) .found ≡ true → useOf (w .state .slots) p (foundIn o q) .slot < slotCount w
+        go (some i) e q f y = slot-found (slotCount w) (w .state .slots) p i e .0
+        go none e (some x) f y = seat-slot p b e x f
+        go none e none f y = absurd (false≢true y)
 
-  pub seating-some : (r : Seating) (o : Option Seat) → r ≡ seating t o → r .found ≡ true → (x : Seat) × (o ≡ some x) × (r ≡ seating t (some x))
-  seating-some r none e f = absurd (true≢false (sym f ∙ ap (λ (r : Seating). r .found) e))
-  seating-some r (some x) e f = (x, refl, e)
+    pub end-absent : slotFor w (w .state .end) ≡ none
+    unfolding slotFor
+    end-absent = slot-beyond ruled-sits (w .state .end) (omega arith) (omega (arith, ruled-end))
 
--- what the code answers of a page used, and the buffer after it
-abbrev pub Brought : World → ℕ → Used → List ℕ → Type 0
-Brought w p u b = (u ≡ used w p (found w p)) × (b ≡ usedWorld w p (found w p) .buffer)
-
-by-found : (w : World) (p : ℕ) (u : Used) (b : List ℕ) (f : Found) → found w p ≡ f → (u ≡ used w p f) × (b ≡ usedWorld w p f .buffer) → Brought w p u b
-by-found w p u b f e h = subst (λ (f : Found). (u ≡ used w p f) × (b ≡ usedWorld w p f .buffer)) (sym e) h
-
+-- by where the page was found
 module _ (w : World) (p : ℕ) where
-  pub brought-hit : (i : ℕ) → slotFor w p ≡ some i → (t : Slots) → t ≡ touched p (w .state .slots) → (k : Counts) → k ≡ addHit (w .state .meta)
-      → Brought w p (record { found = true; slot = i; state = setSlots t (setMeta k (w .state)) }) (w .buffer)
-  unfolding usedWorld hitWorld
-  brought-hit i e t f k g =
-      by-found w p (record { found = true; slot = i; state = setSlots t (setMeta k (w .state)) }) (w .buffer) (hit i) (found-hit w p i e) (
-        ap (λ (t : Slots). record { found = true; slot = i; state = setSlots t (setMeta k (w .state)) }) f
-            ∙ ap (λ (k : Counts). record { found = true; slot = i; state = setSlots (touched p (w .state .slots)) (setMeta k (w .state)) }) g,
-        refl,
-      )
+  pub use-hit : (i : ℕ) → slotFor w p ≡ some i → (t : Slots) → t ≡ touched p (w .state .slots)
+      → _≡_ {A = Use} (record { found = true; hit = true; evicts = false; slot = i; table = t }) (useIn w p)
+  use-hit i e t f =
+      ap (λ (t : Slots). record { found = true; hit = true; evicts = false; slot = i; table = t }) f
+      ∙ ap (useOf (w .state .slots) p) (sym (found-hit w p i e))
 
-  -- by the seating r
-  module _ (absent : slotFor w p ≡ none) (r : Seating) (e : r ≡ seating (w .state .slots) (seated (slotCount w) (unclean (alone w)) p (w .state .slots))) where
-    seats : r ≡ seating (w .state .slots) (seatFor w p)
-    unfolding unclean entriesOf
-    seats = e
+  -- the seating r as a use
+  abbrev taking : Seating → Use
+  taking r = record { found = r .found; hit = false; evicts = r .evicts; slot = r .slot; table = r .table }
 
-    pub brought-nowhere : r .found ≡ false → Brought w p (record { found = false; slot = 0; state = w .state }) (w .buffer)
-    unfolding usedWorld
-    brought-nowhere n =
-        by-found w p (record { found = false; slot = 0; state = w .state }) (w .buffer) nowhere
-        (found-nowhere w p absent (seating-none (w .state .slots) r (seatFor w p) seats n))
-        (refl, refl)
+  pub use-seat : slotFor w p ≡ none → (r : Seating) → r ≡ seating (w .state .slots) (seatFor w p) → taking r ≡ useIn w p
+  unfolding foundIn
+  use-seat e r f = ap taking f ∙ go (seatFor w p) ∙ ap (useOf (w .state .slots) p) (sym (found-absent w p e))
+    where
+      go : (o : Option Seat) → taking (seating (w .state .slots) o) ≡ useOf (w .state .slots) p (foundIn none o)
+      go none = refl
+      go (some x) = refl
 
-    pub brought-slot : rules w ≡ true → Whole (w .state .slots) → p ≤ 65535 → r .found ≡ true → r .slot < slotCount w
-    brought-slot h whole b n =
-        let s = seating-some (w .state .slots) r (seatFor w p) seats n in
-        rw (ap (λ (r : Seating). r .slot) (s .2)) (seat-slot w h whole p b absent (s .0) (s .1))
+-- without a slot
+module _ (t : Slots) (p : ℕ) where
+  pub use-nowhere : (f : Found) → useOf t p f .found ≡ false → f ≡ nowhere
+  use-nowhere (hit i) h = absurd (true≢false h)
+  use-nowhere (miss x) h = absurd (true≢false h)
+  use-nowhere nowhere h = refl
 
-    pub brought-miss : r .found ≡ true → (k : Counts) → k ≡ addMiss (r .evicts) (w .state .meta)
-        → (b : List ℕ) → b ≡ lay (w .buffer) (r .slot * pageSize w) (part (w .base) (p * pageSize w) (pageSize w))
-        → Brought w p (record { found = true; slot = r .slot; state = setSlots (r .table) (setMeta k (w .state)) }) b
-    unfolding usedWorld missWorld baseBytes row
-    brought-miss n k g b l =
-        let s = seating-some (w .state .slots) r (seatFor w p) seats n in
-        by-found w p (record { found = true; slot = r .slot; state = setSlots (r .table) (setMeta k (w .state)) }) b (miss (s .0)) (found-miss w p absent (s .0) (s .1))
-        (subst (λ (r : Seating). k ≡ addMiss (r .evicts) (w .state .meta) → b ≡ lay (w .buffer) (r .slot * pageSize w) (part (w .base) (p * pageSize w) (pageSize w))
-        → (_≡_ {A = Used} (record { found = true; slot = r .slot; state = setSlots (r .table) (setMeta k (w .state)) }) (used w p (miss (s .0)))) × (b ≡ usedWorld w p (miss (s .0)) .buffer))
-        (sym (s .2))
-        (λ g l. (
-          ap (λ (k : Counts). record { found = true; slot = s .0 .slot; state = setSlots (s .0 .table) (setMeta k (w .state)) }) g,
-          l ∙ ap (λ (a : ℕ). lay (w .buffer) (s .0 .slot * pageSize w) (part (w .base) a (pageSize w))) (omega arith),
-        ))
-        g l)
+  pub use-unseated : (o : Option Seat) → useOf t p (foundIn none o) .found ≡ false → o ≡ none
+  unfolding foundIn
+  use-unseated none h = refl
+  use-unseated (some x) h = absurd (true≢false h)

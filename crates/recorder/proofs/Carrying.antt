@@ -1,35 +1,38 @@
 -- A planned close carried out: its arrays are the new entries, the ledger can be renewed by them, and what is copied and
 -- written is what the close is defined to store. Assumes nothing.
-use Prim.Native.Nat.{ℕ, zero, suc, _*_, _<_, _≤_}
+use Prim.Native.Nat.{ℕ, zero, suc, _+_, _*_, _<_, _≤_}
 use mathlib.Core.Path.{_≡_, refl, _∙_, sym, ap}
-use mathlib.Core.Bool.{true}
+use mathlib.Core.Bool.{Bool, true}
 use mathlib.Core.List.{List, [], _∷_, map}
 use mathlib.Core.Option.{Option, some, none}
 use native.Mathlib.Omega.{arith}
 use lib.ListN.{length, take}
 use Rattle.lists.specs.Below.{below, every-from}
-use Rattle.lists.specs.Scans.{Every, Every.done, Every.more, every-map, every-keep}
+use Rattle.lists.specs.Maps.{every-take}
+use Rattle.lists.specs.Scans.{Every, every-map, every-keep}
 use Rattle.octets.specs.Number.{Octets}
 use Rattle.octets.specs.Part.{lay, length-lay}
 use Rattle.units.specs.Bounds.{Within, limits-within, entries-most, places-most, firstImage-least}
+use Rattle.units.specs.Pages.{numbersOf}
 use Rattle.units.specs.Sizes.{top, entryRow, headerLength, limits, entries, places, indexEnd, sideLength, placesAt, ledgerLength}
 use Rattle.units.specs.declared.Tick.{Tick}
 use Rattle.sidefile.specs.Decode.{checksum-below}
 use Rattle.sidefile.specs.Encode.{imageSum, headerFor, indexBytes}
 use Rattle.slots.specs.Table.{toPage, slotOf, unmarked}
 use Rattle.slots.specs.declared.Slots.{Slots}
-use Rattle.ledger.specs.Changed.{numbersOf}
 use Rattle.ledger.specs.Closes.{fresh-arrays, later-in, renewed-later, renews, due-now}
 use Rattle.ledger.specs.Closing.{newOf, every-later, small-new, small-later, length-fresh}
-use Rattle.ledger.specs.Entries.{pageOf}
+use Rattle.ledger.specs.Entries.{pageOf, putAll}
+use Rattle.ledger.specs.Flagged.{others}
 use Rattle.ledger.specs.Laid.{layEach}
-use Rattle.ledger.specs.Renewed.{freshAt, freshOf, laterIn, renewed, Renews}
+use Rattle.ledger.specs.Renewed.{freshAt, freshOf, Puts, Settles, Renews, laterIn, settled, renewed}
 use Rattle.ledger.specs.Rowed.{Small, small-entriesIn}
+use Rattle.ledger.specs.Settled.{settles, settled-puts, settled-renewed}
 use Rattle.ledger.specs.Guarded.{later-read}
 use Rattle.ledger.specs.Tables.{placesOf}
+use Rattle.ledger.specs.Written.{rowsOf}
 use Rattle.ledger.specs.View.{indexed, entriesIn}
 use Rattle.ledger.specs.declared.Entry.{Entry}
-use Rattle.ledger.specs.declared.renewal.Fresh.{Fresh}
 use Rattle.recorder.specs.Carried.{Carries}
 use Rattle.recorder.specs.Close.{openTick, changes, freePlaces, given, freshEntries, staying, after, frontStores, toSide, ledgerAfter, closed}
 use Rattle.recorder.specs.Closed.{closingOf, fresh-new, after-later, due-of, enough}
@@ -39,11 +42,6 @@ use Rattle.recorder.specs.Stored.{imageStart, heldBytes, imaged, front-l
 use Rattle.recorder.specs.Stretches.{imagesLaid, imageSums, dueLaid}
 use Rattle.recorder.specs.World.{World, setClosed, setEntries, setSlots, slotCount, entriesOf, slotBytes, slotFor, bytesAt, bytesIn}
 use Rattle.recorder.specs.declared.plan.Plan.{Plan}
-
-every-take : {A : Type 0} {P : A → Type 0} (n : ℕ) (l : List A) → Every P l → Every P (take n l)
-every-take zero l e = done
-every-take (suc n) [] e = done
-every-take (suc n) (x ∷ xs) (more h e) = more h (every-take n xs e)
 
 each-map : {A B : Type 0} (at : B → ℕ) (b : B → List ℕ) (g : A → B) (l : List A) (xs : List ℕ) → layEach at b (map g l) xs ≡ layEach (λ x. at (g x)) (λ x. b (g x)) l xs
 unfolding layEach
@@ -63,22 +61,27 @@ held-same w = λ i p. one (slotOf (slotCount w) (w .state .slots) p) i
     one (some j) = refl
 
 -- the new entries of a plan with these checksums
-abbrev pub freshFor : Plan → List ℕ → Fresh
-freshFor p sums = record { pages = p .pages; places = p .places; sums = sums; entered = p .entered; count = p .count }
+abbrev pub freshFor : Tick → Plan → List ℕ → List Entry
+freshFor N p sums = freshOf N (p .pages) (p .places) sums (p .entered) (p .count)
 
 -- what is known once the checksums are there: the ledger is of bytes, and these are the checksums of the new images
-pub record Summed (w : World) (p : Plan) (N : Tick) (sums : List ℕ) : Type 0 where
-  pub carries : Carries w p N
+pub record Summed (w : World) (p : Plan) (going : List Bool) (N : Tick) (sums : List ℕ) : Type 0 where
+  pub carries : Carries w p going N
   pub octets : Octets (w .ledger)
   pub made : take (p .count) sums ≡ imageSums (held w) (numbersOf (p .count) (p .pages))
 
--- and once the ledger is renewed: how many entries there are, and its bytes
-pub record Anew (w : World) (p : Plan) (N : Tick) (sums : List ℕ) (n : ℕ) (ledger : List ℕ) : Type 0 where
-  pub summed : Summed w p N sums
-  pub count : n ≡ length (laterIn (w .ledger) (w .state .entries) (p .going) (freshOf N (freshFor p sums)))
-  pub bytes : ledger ≡ lay (w .ledger) 0 (renewed (w .state .settings) (w .ledger) (w .state .entries) (p .going) (freshOf N (freshFor p sums)) N)
+-- once the rows that are going have left the ledger: how many stay, and its bytes
+pub record Left (w : World) (going : List Bool) (N : Tick) (kept : ℕ) (ledger : List ℕ) : Type 0 where
+  pub count : kept ≡ length (others going (entriesIn (w .state .entries) (w .ledger)))
+  pub bytes : ledger ≡ lay (w .ledger) 0 (settled (w .state .settings) (w .ledger) (w .state .entries) going N)
 
-module _ {w : World} {p : Plan} {N : Tick} (k : Carries w p N) where
+-- and once it is renewed: how many entries there are, and its bytes
+pub record Anew (w : World) (p : Plan) (going : List Bool) (N : Tick) (sums : List ℕ) (n : ℕ) (ledger : List ℕ) : Type 0 where
+  pub summed : Summed w p going N sums
+  pub count : n ≡ length (laterIn (w .ledger) (w .state .entries) going (freshFor N p sums))
+  pub bytes : ledger ≡ lay (w .ledger) 0 (renewed (w .state .settings) (w .ledger) (w .state .entries) going (freshFor N p sums) N)
+
+module _ {w : World} {p : Plan} {going : List Bool} {N : Tick} (k : Carries w p going N) where
   facts : RuleFacts w
   facts = rule-facts w (k .ruled)
 
@@ -90,6 +93,13 @@ module _ {w : World} {p : Plan} {N : Tick} (k : Carries w p N) where
 
   room : (length (changes w) ≤ length (freePlaces w)) × (length (after w) ≤ entries (w .state .settings))
   room = enough w (sym (k .planned .enough) ∙ k .enough)
+
+  -- rows can leave the ledger
+  pub can-settle : Settles (w .state .settings) (w .ledger) (w .state .entries)
+  unfolding entriesOf
+  can-settle =
+      settles (w .state .settings) (w .ledger) (w .state .entries) limited (facts .ledger-long) (facts .counted)
+      (every-map (λ e f. f .place-below) (entriesOf w) (facts .each))
 
   -- the images go into places
   pub places-below : Every (λ q. q < places (w .state .settings)) (placesOf (p .count) (p .places))
@@ -111,15 +121,15 @@ module _ {w : World} {p : Plan} {N : Tick} (k : Carries w p N) where
   places-small : places (w .state .settings) ≤ top
   places-small = omega (arith, places-most (w .state .settings) within)
 
-module _ {w : World} {p : Plan} {N : Tick} {sums : List ℕ} (m : Summed w p N sums) where
-  k : Carries w p N
+module _ {w : World} {p : Plan} {going : List Bool} {N : Tick} {sums : List ℕ} (m : Summed w p going N sums) where
+  k : Carries w p going N
   k = m .carries
 
-  fresh-made : freshOf N (freshFor p sums) ≡ newOf (closingOf w)
+  fresh-made : freshFor N p sums ≡ newOf (closingOf w)
   unfolding freshEntries given imageSums
   fresh-made =
       rw (k .ticked)
-      (fresh-arrays (openTick w) (entriesOf w) (λ q. imageSum (toPage q) (bytesIn w q)) (changes w) (freePlaces w) (freshFor p sums)
+      (fresh-arrays (openTick w) (entriesOf w) (λ q. imageSum (toPage q) (bytesIn w q)) (changes w) (freePlaces w) (p .pages) (p .places) sums (p .entered) (p .count)
       (sym (k .planned .counted)) (room k .0) (k .planned .changed) (k .planned .placed (k .enough))
       (m .made ∙ rw (k .planned .changed, held-same w)) (k .planned .came)
       ∙ fresh-new w)
@@ -134,35 +144,49 @@ module _ {w : World} {p : Plan} {N : Tick} {sums : List ℕ} (m : Summed w p N s
   smalls = small-entriesIn (w .state .entries) (w .ledger) (m .octets)
 
   -- the ledger can be renewed
-  pub can-renew : Renews (w .state .settings) (w .ledger) (w .state .entries) (p .going) (freshOf N (freshFor p sums)) (p .count)
+  can-renew : Renews (w .state .settings) (w .ledger) (w .state .entries) going (freshFor N p sums) (p .count)
   unfolding entriesOf
   can-renew =
       rw fresh-made
-      (renews (closingOf w) (w .state .entries) refl (p .going) (k .planned .gone) (limited k) (facts k .ledger-long) (facts k .counted) (facts k .ascends)
-      (every-map (λ e f. f .place-below) (entriesOf w) (facts k .each)) (p .count) (k .planned .most) made-count (rw (← after-later w) (room k .1))
+      (renews (closingOf w) (w .state .entries) refl going (k .planned .gone) (can-settle k) (facts k .ascends) (p .count) (k .planned .most) made-count (rw (← after-later w) (room k .1))
       (small-new (closingOf w) (omega (arith, k .low)) (end-small k) (places-small k) (sums-small k) smalls))
+
+  -- and is, by new entries put in once the others have left it
+  module _ {kept : ℕ} {ledger : List ℕ} (l : Left w going N kept ledger) where
+    count-made : length (freshFor N p sums) ≡ p .count
+    count-made = ap length fresh-made ∙ made-count
+
+    pub can-put : Puts ledger kept (freshFor N p sums) (p .count)
+    can-put =
+        settled-puts (w .state .settings) (w .ledger) (w .state .entries) going N (freshFor N p sums) (p .count) can-renew (m .octets) count-made ledger (l .bytes) kept (l .count)
+
+    pub put-anew : (n : ℕ) → n ≡ kept + p .count → (ledger′ : List ℕ) → ledger′ ≡ lay ledger 0 (rowsOf (putAll (freshFor N p sums) (entriesIn kept ledger))) → Anew w p going N sums n ledger′
+    put-anew n c ledger′ b =
+        let d =
+        settled-renewed (w .state .settings) (w .ledger) (w .state .entries) going N (freshFor N p sums) (p .count) can-renew (m .octets) count-made ledger (l .bytes) kept (l .count) in
+        record { summed = m; count = c ∙ d .0; bytes = b ∙ d .1 }
 
   images-made : imagesLaid (held w) (p .pages) (p .places) (p .count) (w .side) ≡ imaged w
   unfolding imagesLaid freshOf freshAt
   images-made =
       rw (held-same w)
-      (sym (each-map (imageStart w) (heldBytes w) (freshAt N (freshFor p sums)) (below (p .count)) (w .side))
+      (sym (each-map (imageStart w) (heldBytes w) (freshAt N (p .pages) (p .places) sums (p .entered)) (below (p .count)) (w .side))
       ∙ ap (λ (es : List Entry). layEach (imageStart w) (heldBytes w) es (w .side)) (fresh-made ∙ sym (fresh-new w)))
 
-module _ {w : World} {p : Plan} {N : Tick} {sums : List ℕ} {n : ℕ} {ledger : List ℕ} (r : Anew w p N sums n ledger) where
-  c : Carries w p N
+module _ {w : World} {p : Plan} {going : List Bool} {N : Tick} {sums : List ℕ} {n : ℕ} {ledger : List ℕ} (r : Anew w p going N sums n ledger) where
+  c : Carries w p going N
   c = r .summed .carries
 
   count-after : n ≡ length (after w)
   unfolding entriesOf
   count-after =
-      r .count ∙ rw (fresh-made (r .summed)) (ap length (later-in (closingOf w) (w .state .entries) refl (p .going) (c .planned .gone))) ∙ ap length (sym (after-later w))
+      r .count ∙ rw (fresh-made (r .summed)) (ap length (later-in (closingOf w) (w .state .entries) refl going (c .planned .gone))) ∙ ap length (sym (after-later w))
 
   ledger-after : ledger ≡ closed w .ledger
   unfolding entriesOf closed ledgerAfter after freshEntries given changes freePlaces staying
   ledger-after =
       r .bytes
-      ∙ rw (fresh-made (r .summed), c .ticked) (renewed-later (closingOf w) (w .state .entries) refl (p .going) (c .planned .gone) (places-most (w .state .settings) (within c)))
+      ∙ rw (fresh-made (r .summed), c .ticked) (renewed-later (closingOf w) (w .state .entries) refl going (c .planned .gone) (places-most (w .state .settings) (within c)))
 
   read-after : entriesIn n ledger ≡ after w
   unfolding closed ledgerAfter after freshEntries given changes freePlaces staying
@@ -180,7 +204,7 @@ module _ {w : World} {p : Plan} {N : Tick} {sums : List ℕ} {n : ℕ} {ledger :
   pub long-after : n * entryRow ≤ length ledger
   unfolding ledgerLength placesAt
   long-after =
-      omega (arith, few-after, facts c .ledger-long, ap length (r .bytes), length-lay (w .ledger) 0 (renewed (w .state .settings) (w .ledger) (w .state .entries) (p .going) (freshOf N (freshFor p sums)) N))
+      omega (arith, few-after, facts c .ledger-long, ap length (r .bytes), length-lay (w .ledger) 0 (renewed (w .state .settings) (w .ledger) (w .state .entries) going (freshFor N p sums) N))
 
   pub pages-after : Every (λ e. pageOf e < w .state .settings .capacity) (entriesIn n ledger)
   pages-after =

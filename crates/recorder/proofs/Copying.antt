@@ -9,21 +9,22 @@ use native.Mathlib.Omega.{arith}
 use lib.ListN.{length, take, drop, set, getD, length-map, List·getD-map}
 use lib.Seq.{take-suc, take-suc-set, getD-take, length-take-le}
 use Rattle.lists.specs.Below.{from, below}
+use Rattle.lists.specs.Maps.{map-append, every-get}
+use Rattle.lists.specs.Passes.{below-snoc}
 use Rattle.lists.specs.Scans.{Every, keep}
 use Rattle.octets.specs.Part.{part, lay}
 use Rattle.lookup3.specs.Hash.{hashlittle}
 use Rattle.octets.specs.Rows.{row, row-in}
 use Rattle.units.specs.Bounds.{limits-within, pages-most}
+use Rattle.units.specs.Pages.{numbersOf}
 use Rattle.units.specs.Sizes.{entryRow, limits, places, imageAt, bufferLength, sideLength, baseLength}
 use Rattle.units.specs.declared.Page.{Page}
 use Rattle.units.specs.declared.Place.{Place}
 use Rattle.units.specs.declared.Tick.{Tick}
 use Rattle.sidefile.specs.Encode.{imageSum, checksum}
 use Rattle.slots.specs.Table.{toPage}
-use Rattle.ledger.specs.Changed.{numbersOf}
 use Rattle.ledger.specs.Entries.{pageOf}
 use Rattle.ledger.specs.Laid.{layEach}
-use Rattle.ledger.specs.Lists.{map-append, below-snoc, every-get}
 use Rattle.ledger.specs.Read.{entry-next, entries-end}
 use Rattle.ledger.specs.Renewed.{isDueNow}
 use Rattle.ledger.specs.Tables.{placesOf}
@@ -86,12 +87,12 @@ module _ (w : World) (pages : List Page) (places′ : List Place) where
 
 -- the checksum of one page more
 pub sums-none : (w : World) (pages : List Page) (sums : List ℕ) → take 0 sums ≡ imageSums w (numbersOf 0 pages)
-unfolding imageSums numbersOf
+unfolding imageSums
 sums-none w pages sums = refl
 
 pub sums-next : (w : World) (pages : List Page) (sums : List ℕ) (j : ℕ) (v : ℕ) → take j sums ≡ imageSums w (numbersOf j pages) → j < length sums → j < length pages
     → v ≡ checksum (bytesIn w (getD pages j (record { 0 = 0 }) .0)) → take (j + 1) (set sums j v) ≡ imageSums w (numbersOf (j + 1) pages)
-unfolding imageSums numbersOf imageSum
+unfolding imageSums imageSum
 sums-next w pages sums j v i h k e =
     let d : Page = record { 0 = 0 } in
     rw (add-one j, take-suc-set sums j v h, take-suc pages j d k, map-append (λ (p : Page). p .0) (take j pages) (getD pages j d ∷ []), i, e)

@@ -1,7 +1,7 @@
 -- What a close answers, by the verdict on its tests and by its plan. Assumes nothing.
 use Prim.Native.Nat.{ℕ, _<_}
 use mathlib.Core.Path.{_≡_, refl, _∙_, sym, ap}
-use mathlib.Core.Bool.{true, false}
+use mathlib.Core.Bool.{Bool, true, false}
 use mathlib.Core.List.{List, [], _∷_, _++_, append-assoc}
 use native.Mathlib.Omega.{arith}
 use lib.Dec.{ltb}
@@ -10,10 +10,10 @@ use Rattle.lists.specs.Bools.{both}
 use Rattle.lists.specs.Scans.{allOf}
 use Rattle.units.specs.Refusals as Refusals
 use Rattle.units.specs.Sizes.{top, sideLength, baseLength, bufferLength}
-use Rattle.units.specs.Tests.{Test, passes, verdict, tested, passes-both, tested-append, tested-behind}
-use Rattle.sidefile.specs.Passed.{verdict-none}
+use Rattle.units.specs.Tests.{Test, passes, verdict, tested, passes-both, verdict-none, refused-before, refused-last, accepted-last}
 use Rattle.recorder.specs.Carried.{Carries}
 use Rattle.recorder.specs.Close.{openTick, closed, suffices, closeTests, closeReply}
+use Rattle.recorder.specs.Facts.{Stands, stands-facts}
 use Rattle.recorder.specs.Outcome.{lent}
 use Rattle.recorder.specs.Planned.{Planned}
 use Rattle.recorder.specs.Rules.{rules, standing}
@@ -21,9 +21,7 @@ use Rattle.recorder.specs.Tests.{lastTick}
 use Rattle.recorder.specs.World.{World, refuse, accept, slotFor}
 use Rattle.recorder.specs.declared.State.{State}
 use Rattle.recorder.specs.declared.plan.Plan.{Plan}
-use Rattle.recorder.proofs.Accepted.{Stands, stands-facts}
 use Rattle.recorder.proofs.Planning.{same-suffices, planned-in}
-use Rattle.recorder.proofs.Replied.{refused-by}
 
 module _ (w : World) where
   -- the tests before 10
@@ -38,9 +36,7 @@ module _ (w : World) where
   in-parts = ap (λ (ts : List Test). tested ts (refuse w []) (accept (closed w) [])) (sym (append-assoc (standing w) (lastTick w) last))
 
   pub close-refused : (n : ℕ) → n ≡ verdict early → (n ≡ 0 → ⊥) → refuse w [] n ≡ closeReply w
-  close-refused n e ne =
-      refused-by (refuse w []) (tested last (refuse w []) (accept (closed w) [])) early n e ne
-      ∙ sym (in-parts ∙ tested-append (refuse w []) (accept (closed w) []) early last)
+  close-refused n e ne = sym (in-parts ∙ refused-before (refuse w []) (accept (closed w) []) early last n e ne)
 
   pub close-passes : (n : ℕ) → n ≡ verdict early → n ≡ 0 → passes early ≡ true
   unfolding standing lastTick allOf
@@ -48,12 +44,10 @@ module _ (w : World) where
 
   module _ (g : passes early ≡ true) where
     pub close-short : suffices w ≡ false → refuse w [] Refusals.noPlace ≡ closeReply w
-    unfolding tested
-    close-short s = sym (in-parts ∙ tested-behind (refuse w []) (accept (closed w) []) early last g ∙ rw s)
+    close-short s = sym (in-parts ∙ refused-last (refuse w []) (accept (closed w) []) early _ _ g s)
 
     pub close-done : suffices w ≡ true → accept (closed w) [] ≡ closeReply w
-    unfolding tested
-    close-done s = sym (in-parts ∙ tested-behind (refuse w []) (accept (closed w) []) early last g ∙ rw s)
+    close-done s = sym (in-parts ∙ accepted-last (refuse w []) (accept (closed w) []) early _ _ g s)
 
     pub close-stands : Stands w
     close-stands = stands-facts w (passes-both (standing w) (lastTick w) g .0)
@@ -71,12 +65,13 @@ module _ (s : State) (ledger base side buffer kinds : List ℕ) where
   unfolding rules slotFor
   rules-alone h = h
 
-  pub told : (p : Plan) → Planned (lent s ledger [] [] [] []) p → p .enough ≡ suffices whole
-  told p q = q .enough ∙ same-suffices s ledger base side buffer kinds
+  pub told : (p : Plan) (going : List Bool) → Planned (lent s ledger [] [] [] []) p going → p .enough ≡ suffices whole
+  told p going q = q .enough ∙ same-suffices s ledger base side buffer kinds
 
-  pub can-carry : passes (early whole) ≡ true → (p : Plan) → Planned (lent s ledger [] [] [] []) p → p .enough ≡ true → (k : List ℕ) → Carries (lent s ledger base side buffer k) p (openTick whole)
+  pub can-carry : passes (early whole) ≡ true → (p : Plan) (going : List Bool) → Planned (lent s ledger [] [] [] []) p going → p .enough ≡ true
+      → (k : List ℕ) → Carries (lent s ledger base side buffer k) p going (openTick whole)
   unfolding rules slotFor baseLength sideLength bufferLength
-  can-carry g p q e k =
+  can-carry g p going q e k =
       let r = close-stands whole g in
       record {
         ruled = r .ruled;
@@ -86,5 +81,5 @@ module _ (s : State) (ledger base side buffer kinds : List ℕ) where
         low = close-low whole g;
         ticked = refl;
         enough = e;
-        planned = planned-in s ledger base side buffer k p q;
+        planned = planned-in s ledger base side buffer k p going q;
       }

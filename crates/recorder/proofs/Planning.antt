@@ -13,6 +13,7 @@ use Rattle.lists.specs.Below.{below, length-from}
 use Rattle.lists.specs.Bools.{both, and-make, false-of}
 use Rattle.lists.specs.Scans.{keep, allOf, every-allOf}
 use Rattle.units.specs.Bounds.{limits-within, entries-most}
+use Rattle.units.specs.Pages.{numbersOf}
 use Rattle.units.specs.Sizes.{entryRow, limits, entries, places, placesAt, ledgerLength}
 use Rattle.units.specs.declared.Tick.{Tick}
 use Rattle.sidefile.specs.Encode.{imageSum}
@@ -21,9 +22,8 @@ use Rattle.sidefile.specs.Table.{placesFit, all-seen}
 use Rattle.sidefile.specs.declared.IndexEntry.{IndexEntry}
 use Rattle.slots.specs.Order.{unless}
 use Rattle.slots.specs.Sits.{slot-facts, changed-not}
-use Rattle.slots.specs.Judged.{listed}
 use Rattle.slots.specs.Table.{toPage, pageAt, vacant, changedAt, changedPage}
-use Rattle.ledger.specs.Changed.{numbersOf, among, entryTicks, among-kept}
+use Rattle.ledger.specs.Changed.{among, entryTicks, among-kept}
 use Rattle.ledger.specs.Closes.{others-stay}
 use Rattle.ledger.specs.Closing.{newOf, staysOf, changesOf, freeOf, length-fresh}
 use Rattle.ledger.specs.Entries.{placeOf, retires, fresh}
@@ -133,28 +133,28 @@ counts w k free stay going e f g h = go (decLt (length (freePlaces w)) k)
         rw (eq-eqb free k (f ∙ length-take-le k (freePlaces w) l), le-leb (length (changes w)) (length (freePlaces w)) (omega arith), z)
 
 -- the answers of the calls, put together
-pub plans : (w : World) → rules w ≡ true → (p : Plan) (N : Tick) (n S wait free stay : ℕ)
+pub plans : (w : World) → rules w ≡ true → (p : Plan) (going : List Bool) (N : Tick) (n S wait free stay : ℕ)
     → N ≡ openTick w → n ≡ w .state .entries → S ≡ slotCount w → wait ≡ waitOf w
     → length (p .pages) ≡ 16 → p .count ≤ 16
-    → listed (p .count) (p .pages) ≡ keep (changedPage S (w .state .slots)) (below (w .state .end))
+    → numbersOf (p .count) (p .pages) ≡ keep (changedPage S (w .state .slots)) (below (w .state .end))
     → free ≡ length (take (p .count) (freeIn (w .state .settings) n N (w .ledger)))
     → placesOf free (p .places) ≡ take (p .count) (freeIn (w .state .settings) n N (w .ledger))
-    → take n (p .going) ≡ map (retires wait N (among (numbersOf (p .count) (p .pages)))) (entriesIn n (w .ledger))
+    → take n going ≡ map (retires wait N (among (numbersOf (p .count) (p .pages)))) (entriesIn n (w .ledger))
     → take (p .count) (p .entered) ≡ entryTicks N (entriesIn n (w .ledger)) (numbersOf (p .count) (p .pages))
-    → stay ≡ length (others (p .going) (below n))
+    → stay ≡ length (others going (below n))
     → p .enough ≡ (eqb free (p .count) && leb (stay + p .count) (entries (w .state .settings)))
-    → Planned w p
-unfolding numbersOf freePlaces freeIn entriesOf changes changedIn
-plans w r p N n S wait free stay tk en sl wt long most ch fc pl go ca st e =
+    → Planned w p going
+unfolding freePlaces freeIn entriesOf changes changedIn
+plans w r p going N n S wait free stay tk en sl wt long most ch fc pl go ca st e =
     let k = p .count in
     let cs : numbersOf k (p .pages) ≡ changes w = rw sl at ch in
     let m : length (numbersOf k (p .pages)) ≡ k = length-map (take k (p .pages)) (λ q. q .0) ∙ length-take-le k (p .pages) (omega arith) in
     let l : k ≡ length (changes w) = sym m ∙ ap length cs in
     let f : free ≡ length (take k (freePlaces w)) = rw (tk, en) at fc in
-    let g : take (w .state .entries) (p .going) ≡ map (retires (waitOf w) (openTick w) (changedIn w)) (entriesOf w)
+    let g : take (w .state .entries) going ≡ map (retires (waitOf w) (openTick w) (changedIn w)) (entriesOf w)
     = (rw (tk, en, wt, cs) at go) ∙ (λ i. map (retires (waitOf w) (openTick w) (λ q. among-changes w r q i)) (entriesOf w)) in
-    let s : stay ≡ length (others (p .going) (below (w .state .entries))) = rw en at st in
-    let y : p .enough ≡ suffices w = e ∙ counts w k free stay (p .going) l f g s in
+    let s : stay ≡ length (others going (below (w .state .entries))) = rw en at st in
+    let y : p .enough ≡ suffices w = e ∙ counts w k free stay going l f g s in
     record {
       enough = y;
       most = most;
@@ -178,9 +178,9 @@ module _ (s : State) (ledger base side buffer kinds : List ℕ) where
   unfolding suffices given changes changedIn freePlaces staying entriesOf
   same-suffices = rw (length-after (lent s ledger [] [] [] []), length-after (lent s ledger base side buffer kinds))
 
-  pub planned-in : (p : Plan) → Planned (lent s ledger [] [] [] []) p → Planned (lent s ledger base side buffer kinds) p
+  pub planned-in : (p : Plan) (going : List Bool) → Planned (lent s ledger [] [] [] []) p going → Planned (lent s ledger base side buffer kinds) p going
   unfolding changes changedIn freePlaces entriesOf
-  planned-in p q =
+  planned-in p going q =
       record {
         enough = q .enough ∙ same-suffices;
         most = q .most;

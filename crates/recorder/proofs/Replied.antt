@@ -1,40 +1,33 @@
 -- The replies of open, read, write and grow, by where the code returns. Assumes nothing.
 use Prim.Native.Nat.{ℕ, _+_, _*_, _≤_}
 use mathlib.Core.Path.{_≡_, refl, _∙_, sym, ap}
-use mathlib.Core.Bool.{true, false, false≢true, true≢false}
+use mathlib.Core.Bool.{true, false, false≢true}
 use mathlib.Core.List.{List, [], _++_}
 use mathlib.Core.Option.{Option, some, none}
 use native.Mathlib.Omega.{arith}
 use lib.ListN.{length, set, replicate}
 use lib.Seq.{take-all}
 use borrow.Author.Tests.{eq-eqb, ne-eqb}
-use Rattle.lists.specs.Bools.{false-of}
 use Rattle.octets.specs.Part.{part, lay, lay-whole, length-part, part-zero}
+use Rattle.octets.specs.Rows.{row}
 use Rattle.units.specs.Ages.{tick}
 use Rattle.units.specs.Refusals as Refusals
 use Rattle.units.specs.Sizes.{ledgerLength}
-use Rattle.units.specs.Tests.{Test, passes, verdict, tested, tested-passes, tested-fails, verdict-passes}
+use Rattle.units.specs.Tests.{Test, verdict, tested-passes, refused-by}
 use Rattle.units.specs.declared.Settings.{Settings}
 use Rattle.sidefile.specs.Encode.{headerFor, indexBytes}
-use Rattle.slots.specs.Answers.{seating}
-use Rattle.slots.specs.Table.{marked, Seat, seated}
-use Rattle.slots.specs.declared.Seating.{Seating}
+use Rattle.slots.specs.Table.{marked, Seat}
 use Rattle.slots.specs.declared.Slots.{Slots}
-use Rattle.recorder.specs.Calls.{openState, openTests, opened, openReply, spanTests, unclean, Found, hit, miss, nowhere, found, hitWorld, missWorld, metaBypass, rawBypass, readFound, readReply, written, writeFound, writeReply, growTests, grown, zeroPage, growSeated, growReply}
+use Rattle.recorder.specs.Calls.{openState, openTests, opened, openReply, spanTests, Found, hit, miss, nowhere, foundIn, found, hitWorld, missWorld, metaBypass, rawBypass, readFound, readReply, written, writeFound, writeReply, growTests, grown, zeroPage, growSeated, growReply, seatFor}
 use Rattle.recorder.specs.Outcome.{lent}
 use Rattle.recorder.specs.Rules.{standing}
-use Rattle.recorder.specs.Using.{isFound, slotIn, used, usedWorld}
-use Rattle.recorder.specs.World.{World, refuse, accept, setState, setEnd, setSlots, setMeta, setLedger, setBase, setSide, setBuffer, setKinds, addEviction, zeroState, pageSize, slotCount, entriesOf, kindOf, metadata}
+use Rattle.recorder.specs.Using.{useOf, addUse, broughtTo}
+use Rattle.recorder.specs.World.{World, refuse, accept, setState, setEnd, setSlots, setMeta, setLedger, setBase, setSide, setBuffer, setKinds, addEviction, zeroState, pageSize, kindOf, metadata, slotFor, baseBytes}
 use Rattle.recorder.specs.declared.Counts.{Counts}
 use Rattle.recorder.specs.declared.State.{State}
-use Rattle.recorder.specs.declared.buffer.Used.{Used}
-use Rattle.recorder.proofs.Accepted.{Access, access-base, Growth, Opening, inner, brought-inner}
-use Rattle.recorder.proofs.Bringing.{alone, seatFor, seating-none, seating-some, Brought}
-
--- a verdict that is no 0
-pub refused-by : {R : Type 0} (refused : ℕ → R) (r : R) (ts : List Test) (n : ℕ) → n ≡ verdict ts → (n ≡ 0 → ⊥) → refused n ≡ tested ts refused r
-refused-by refused r ts n e ne =
-    sym (tested-fails refused r ts (false-of (passes ts) (λ p. ne (e ∙ verdict-passes ts p))) ∙ ap refused (sym e))
+use Rattle.recorder.specs.declared.buffer.Use.{Use}
+use Rattle.recorder.proofs.Accepted.{Access, access-base, Growth, Opening}
+use Rattle.recorder.proofs.Bringing.{alone, found-absent, useIn, use-alone, use-nowhere, use-unseated}
 
 -- n bytes laid over a slice of that length
 filled : (into xs : List ℕ) (at : ℕ) → at + length into ≤ length xs → lay into 0 (part xs at (length into)) ≡ part xs at (length into)
@@ -43,27 +36,37 @@ filled into xs at h = lay-whole into (part xs at (length into)) (length-part xs 
 whole-part : (bs : List ℕ) → part bs 0 (length bs) ≡ bs
 whole-part bs = part-zero bs (length bs) ∙ take-all (length bs) bs (omega arith)
 
+-- the state and the buffer after page p was used, by the answer u of it
+abbrev usedState : World → Use → State
+usedState w u = setSlots (u .table) (setMeta (addUse (u .hit) (u .evicts) (w .state .meta)) (w .state))
+
+abbrev usedBuffer : World → ℕ → Use → List ℕ
+usedBuffer w p u = broughtTo (u .hit) (w .buffer) (u .slot * pageSize w) (part (w .base) (p * pageSize w) (pageSize w))
+
+base-bytes : (w : World) (p : ℕ) → part (w .base) (p * pageSize w) (pageSize w) ≡ baseBytes w p
+unfolding baseBytes row
+base-bytes w p = ap (λ (a : ℕ). part (w .base) a (pageSize w)) (omega arith)
+
 -- a metadata page used, wherever it is found
-read-used : (w : World) (p offset n : ℕ) (f : Found) → isFound f ≡ true
-    → accept (setState (used w p f .state) (setBuffer (usedWorld w p f .buffer) w)) (part (usedWorld w p f .buffer) (slotIn f * pageSize w + offset) n) ≡ readFound w p offset n f
-unfolding readFound usedWorld hitWorld missWorld
-read-used w p offset n (hit i) h = refl
-read-used w p offset n (miss x) h = refl
-read-used w p offset n nowhere h = absurd (false≢true h)
+module _ (w : World) (p offset : ℕ) where
+  abbrev useAt : Found → Use
+  useAt f = useOf (w .state .slots) p f
 
-write-used : (w : World) (p offset : ℕ) (bs : List ℕ) (f : Found) → isFound f ≡ true
-    → accept (setState (setSlots (marked (slotIn f) (used w p f .state .slots)) (used w p f .state)) (setBuffer (lay (usedWorld w p f .buffer) (slotIn f * pageSize w + offset) bs) w)) bs
-    ≡ writeFound w p offset bs f
-unfolding writeFound written usedWorld hitWorld missWorld
-write-used w p offset bs (hit i) h = refl
-write-used w p offset bs (miss x) h = refl
-write-used w p offset bs nowhere h = absurd (false≢true h)
+  read-used : (n : ℕ) (f : Found) → useAt f .found ≡ true
+      → accept (setState (usedState w (useAt f)) (setBuffer (usedBuffer w p (useAt f)) w)) (part (usedBuffer w p (useAt f)) (useAt f .slot * pageSize w + offset) n) ≡ readFound w p offset n f
+  unfolding readFound hitWorld missWorld broughtTo
+  read-used n (hit i) h = refl
+  read-used n (miss x) h =
+      ap (λ (b : List ℕ). accept (setState (usedState w (useAt (miss x))) (setBuffer (lay (w .buffer) (x .slot * pageSize w) b) w)) (part (lay (w .buffer) (x .slot * pageSize w) b) (x .slot * pageSize w + offset) n)) (base-bytes w p)
+  read-used n nowhere h = absurd (false≢true h)
 
--- nowhere
-none-found : (f : Found) → isFound f ≡ false → f ≡ nowhere
-none-found (hit i) h = absurd (true≢false h)
-none-found (miss x) h = absurd (true≢false h)
-none-found nowhere h = refl
+  write-used : (bs : List ℕ) (f : Found) → useAt f .found ≡ true
+      → accept (setState (setSlots (marked (useAt f .slot) (useAt f .table)) (usedState w (useAt f))) (setBuffer (lay (usedBuffer w p (useAt f)) (useAt f .slot * pageSize w + offset) bs) w)) bs ≡ writeFound w p offset bs f
+  unfolding writeFound written hitWorld missWorld broughtTo
+  write-used bs (hit i) h = refl
+  write-used bs (miss x) h =
+      ap (λ (b : List ℕ). accept (setState (setSlots (marked (x .slot) (x .table)) (usedState w (useAt (miss x)))) (setBuffer (lay (lay (w .buffer) (x .slot * pageSize w) b) (x .slot * pageSize w + offset) bs) w)) bs) (base-bytes w p)
+  write-used bs nowhere h = absurd (false≢true h)
 
 -- read
 module _ (w : World) (p offset : ℕ) (into : List ℕ) where
@@ -72,7 +75,7 @@ module _ (w : World) (p offset : ℕ) (into : List ℕ) where
 
   pub read-refused : (n : ℕ) → n ≡ verdict tests → (n ≡ 0 → ⊥) → refuse w into n ≡ readReply p offset into w
   unfolding readReply
-  read-refused n e ne = refused-by (refuse w into) _ tests n e ne
+  read-refused n e ne = sym (refused-by (refuse w into) _ tests n e ne)
 
   module _ (a : Access w p offset (length into)) where
     raw-read : metadata w p ≡ false → readReply p offset into w ≡ accept (rawBypass w) (part (w .base) (p * pageSize w + offset) (length into))
@@ -95,35 +98,34 @@ module _ (w : World) (p offset : ℕ) (into : List ℕ) where
         ∙ ap (λ (x : List ℕ). accept (rawBypass w) x) (in-base x f)
         ∙ sym (raw-read (ne-eqb _ _ k))
 
-    module _ (k : kindOf w p ≡ 0) (u : Used) (b : List ℕ) (h : Brought (inner w) p u b) where
-      pub read-found : (fits : u .slot * pageSize w + offset + length into ≤ length b) → u .found ≡ true
+    module _ (k : kindOf w p ≡ 0) (u : Use) (h : u ≡ useIn (alone w) p) where
+      pub read-found : u .found ≡ true → (b : List ℕ) → b ≡ usedBuffer w p u → (fits : u .slot * pageSize w + offset + length into ≤ length b)
           → (x : List ℕ) → x ≡ lay into 0 (part b (u .slot * pageSize w + offset) (length into))
-          → accept (setState (u .state) (setBuffer b w)) x ≡ readReply p offset into w
-      read-found fits y x e =
-          let g = brought-inner w p u b h in
-          ap (λ (x : List ℕ). accept (setState (u .state) (setBuffer b w)) x) (e ∙ filled into b (u .slot * pageSize w + offset) fits)
-          ∙ ap (λ (u : Used). accept (setState (u .state) (setBuffer b w)) (part b (u .slot * pageSize w + offset) (length into))) (g .0)
-          ∙ ap (λ (b : List ℕ). accept (setState (used w p (found w p) .state) (setBuffer b w)) (part b (slotIn (found w p) * pageSize w + offset) (length into))) (g .1)
-          ∙ read-used w p offset (length into) (found w p) (sym (ap (λ (u : Used). u .found) (g .0)) ∙ y)
+          → (c : Counts) → c ≡ addUse (u .hit) (u .evicts) (w .state .meta)
+          → accept (setState (setSlots (u .table) (setMeta c (w .state))) (setBuffer b w)) x ≡ readReply p offset into w
+      read-found y b f fits x e c m =
+          let g = h ∙ use-alone w p in
+          ap (λ (x : List ℕ). accept (setState (setSlots (u .table) (setMeta c (w .state))) (setBuffer b w)) x) (e ∙ filled into b (u .slot * pageSize w + offset) fits)
+          ∙ ap (λ (c : Counts). accept (setState (setSlots (u .table) (setMeta c (w .state))) (setBuffer b w)) (part b (u .slot * pageSize w + offset) (length into))) m
+          ∙ ap (λ (b : List ℕ). accept (setState (usedState w u) (setBuffer b w)) (part b (u .slot * pageSize w + offset) (length into))) f
+          ∙ ap (λ (u : Use). accept (setState (usedState w u) (setBuffer (usedBuffer w p u) w)) (part (usedBuffer w p u) (u .slot * pageSize w + offset) (length into))) g
+          ∙ read-used w p offset (length into) (found w p) (sym (ap (λ (u : Use). u .found) g) ∙ y)
           ∙ sym (meta-read (eq-eqb _ _ k) (found w p) refl)
 
       pub read-nowhere : u .found ≡ false → (s : State) → s ≡ metaBypass (lent (w .state) [] [] [] [] []) .state
           → (x : List ℕ) → x ≡ lay into 0 (part (w .base) (p * pageSize w + offset) (length into))
-          → accept (setState s (setBuffer b w)) x ≡ readReply p offset into w
-      unfolding metaBypass readFound usedWorld
+          → accept (setState s w) x ≡ readReply p offset into w
+      unfolding metaBypass readFound
       read-nowhere y s e x f =
-          let g = brought-inner w p u b h in
-          let z = none-found (found w p) (sym (ap (λ (u : Used). u .found) (g .0)) ∙ y) in
-          ap (λ (s : State). accept (setState s (setBuffer b w)) x) e
-          ∙ ap (λ (b : List ℕ). accept (setState (metaBypass w .state) (setBuffer b w)) x) (g .1 ∙ ap (λ (f : Found). usedWorld w p f .buffer) z)
+          ap (λ (s : State). accept (setState s w) x) e
           ∙ ap (λ (x : List ℕ). accept (metaBypass w) x) (in-base x f)
-          ∙ sym (meta-read (eq-eqb _ _ k) nowhere z)
+          ∙ sym (meta-read (eq-eqb _ _ k) nowhere (use-nowhere (w .state .slots) p (found w p) (sym (ap (λ (u : Use). u .found) (h ∙ use-alone w p)) ∙ y)))
 
 -- write
 module _ (w : World) (p offset : ℕ) (bs : List ℕ) where
   pub write-refused : (n : ℕ) → n ≡ verdict (tests w p offset bs) → (n ≡ 0 → ⊥) → refuse w bs n ≡ writeReply p offset bs w
   unfolding writeReply
-  write-refused n e ne = refused-by (refuse w bs) _ (tests w p offset bs) n e ne
+  write-refused n e ne = sym (refused-by (refuse w bs) _ (tests w p offset bs) n e ne)
 
   module _ (a : Access w p offset (length bs)) where
     raw-write : metadata w p ≡ false → writeReply p offset bs w ≡ accept (setBase (lay (w .base) (p * pageSize w + offset) bs) (rawBypass w)) bs
@@ -143,26 +145,25 @@ module _ (w : World) (p offset : ℕ) (bs : List ℕ) where
         ∙ ap (λ (x : List ℕ). accept (setBase x (rawBypass w)) bs) (f ∙ ap (lay (w .base) (p * pageSize w + offset)) (whole-part bs))
         ∙ sym (raw-write (ne-eqb _ _ k))
 
-    module _ (k : kindOf w p ≡ 0) (u : Used) (b : List ℕ) (h : Brought (inner w) p u b) where
-      pub write-found : u .found ≡ true → (t : Slots) → t ≡ marked (u .slot) (u .state .slots)
+    module _ (k : kindOf w p ≡ 0) (u : Use) (h : u ≡ useIn (alone w) p) where
+      pub write-found : u .found ≡ true → (b : List ℕ) → b ≡ usedBuffer w p u
           → (x : List ℕ) → x ≡ lay b (u .slot * pageSize w + offset) (part bs 0 (length bs))
-          → accept (setState (setSlots t (u .state)) (setBuffer x w)) bs ≡ writeReply p offset bs w
-      write-found y t e x f =
-          let g = brought-inner w p u b h in
-          ap (λ (t : Slots). accept (setState (setSlots t (u .state)) (setBuffer x w)) bs) e
-          ∙ ap (λ (x : List ℕ). accept (setState (setSlots (marked (u .slot) (u .state .slots)) (u .state)) (setBuffer x w)) bs) (f ∙ ap (lay b (u .slot * pageSize w + offset)) (whole-part bs))
-          ∙ ap (λ (u : Used). accept (setState (setSlots (marked (u .slot) (u .state .slots)) (u .state)) (setBuffer (lay b (u .slot * pageSize w + offset) bs) w)) bs) (g .0)
-          ∙ ap (λ (b : List ℕ). accept (setState (setSlots (marked (slotIn (found w p)) (used w p (found w p) .state .slots)) (used w p (found w p) .state)) (setBuffer (lay b (slotIn (found w p) * pageSize w + offset) bs) w)) bs) (g .1)
-          ∙ write-used w p offset bs (found w p) (sym (ap (λ (u : Used). u .found) (g .0)) ∙ y)
+          → (t : Slots) → t ≡ marked (u .slot) (u .table)
+          → (c : Counts) → c ≡ addUse (u .hit) (u .evicts) (w .state .meta)
+          → accept (setState (setSlots t (setMeta c (w .state))) (setBuffer x w)) bs ≡ writeReply p offset bs w
+      write-found y b f x e t l c m =
+          let g = h ∙ use-alone w p in
+          ap (λ (t : Slots). accept (setState (setSlots t (setMeta c (w .state))) (setBuffer x w)) bs) l
+          ∙ ap (λ (c : Counts). accept (setState (setSlots (marked (u .slot) (u .table)) (setMeta c (w .state))) (setBuffer x w)) bs) m
+          ∙ ap (λ (x : List ℕ). accept (setState (setSlots (marked (u .slot) (u .table)) (usedState w u)) (setBuffer x w)) bs) (e ∙ ap (lay b (u .slot * pageSize w + offset)) (whole-part bs))
+          ∙ ap (λ (b : List ℕ). accept (setState (setSlots (marked (u .slot) (u .table)) (usedState w u)) (setBuffer (lay b (u .slot * pageSize w + offset) bs) w)) bs) f
+          ∙ ap (λ (u : Use). accept (setState (setSlots (marked (u .slot) (u .table)) (usedState w u)) (setBuffer (lay (usedBuffer w p u) (u .slot * pageSize w + offset) bs) w)) bs) g
+          ∙ write-used w p offset bs (found w p) (sym (ap (λ (u : Use). u .found) g) ∙ y)
           ∙ sym (meta-write (eq-eqb _ _ k) (found w p) refl)
 
-      pub write-nowhere : u .found ≡ false → refuse (setBuffer b w) bs Refusals.noSlot ≡ writeReply p offset bs w
-      unfolding writeFound usedWorld
-      write-nowhere y =
-          let g = brought-inner w p u b h in
-          let z = none-found (found w p) (sym (ap (λ (u : Used). u .found) (g .0)) ∙ y) in
-          ap (λ (b : List ℕ). refuse (setBuffer b w) bs Refusals.noSlot) (g .1 ∙ ap (λ (f : Found). usedWorld w p f .buffer) z)
-          ∙ sym (meta-write (eq-eqb _ _ k) nowhere z)
+      pub write-nowhere : u .found ≡ false → refuse w bs Refusals.noSlot ≡ writeReply p offset bs w
+      unfolding writeFound
+      write-nowhere y = sym (meta-write (eq-eqb _ _ k) nowhere (use-nowhere (w .state .slots) p (found w p) (sym (ap (λ (u : Use). u .found) (h ∙ use-alone w p)) ∙ y)))
 
 -- grow
 module _ (w : World) (kind : ℕ) where
@@ -171,7 +172,7 @@ module _ (w : World) (kind : ℕ) where
 
   pub grow-refused : (n : ℕ) → n ≡ verdict asks → (n ≡ 0 → ⊥) → refuse w [] n ≡ growReply kind w
   unfolding growReply
-  grow-refused n e ne = refused-by (refuse w []) _ asks n e ne
+  grow-refused n e ne = sym (refused-by (refuse w []) _ asks n e ne)
 
   module _ (g : Growth w kind) where
     -- the state with one page more
@@ -188,34 +189,46 @@ module _ (w : World) (kind : ℕ) where
     unfolding growReply
     grow-meta k o e = tested-passes (refuse w []) _ asks (g .passed) ∙ rw (eq-eqb _ _ k, e)
 
-    -- by the seating r
-    module _ (k : kind ≡ 0) (r : Seating) (e : r ≡ seating (w .state .slots) (seated (slotCount w) (unclean (alone w)) (w .state .end) (w .state .slots))) where
-      takes : r ≡ seating (w .state .slots) (seatFor w (w .state .end))
-      unfolding unclean entriesOf
-      takes = e
+    -- by the answer u of page e, which is in no slot
+    module _ (k : kind ≡ 0) (absent : slotFor w (w .state .end) ≡ none) (u : Use) (h : u ≡ useIn (alone w) (w .state .end)) where
+      abbrev seats : Option Seat → Use
+      seats o = useOf (w .state .slots) (w .state .end) (foundIn none o)
 
-      pub grow-nowhere : r .found ≡ false → refuse w [] Refusals.noSlot ≡ growReply kind w
+      takes : u ≡ seats (seatFor w (w .state .end))
+      takes = h ∙ use-alone w (w .state .end) ∙ ap (useOf (w .state .slots) (w .state .end)) (found-absent w (w .state .end) absent)
+
+      pub grow-nowhere : u .found ≡ false → refuse w [] Refusals.noSlot ≡ growReply kind w
       unfolding growSeated
-      grow-nowhere n = sym (grow-meta k none (seating-none (w .state .slots) r (seatFor w (w .state .end)) takes n))
+      grow-nowhere y =
+          sym (grow-meta k none (use-unseated (w .state .slots) (w .state .end) (seatFor w (w .state .end)) (sym (ap (λ (u : Use). u .found) takes) ∙ y)))
 
       -- the world after it, by the code's parts
       abbrev grows : Slots → Counts → State → List ℕ → World
       grows t c z x = setState (setSlots t (setMeta c z)) (setBuffer x (setKinds (set (w .kinds) (w .state .end) 0) w))
 
-      pub grow-seated : r .found ≡ true → (t : Slots) → t ≡ marked (r .slot) (r .table) → (c : Counts) → c ≡ addEviction (r .evicts) (w .state .meta)
+      -- and by a use
+      abbrev growsBy : Use → World
+      growsBy u =
+          grows (marked (u .slot) (u .table)) (addEviction (u .evicts) (w .state .meta)) (setEnd (w .state .end + 1) (w .state))
+          (lay (w .buffer) (u .slot * pageSize w) (zeroPage w))
+
+      grow-used : (o : Option Seat) → seats o .found ≡ true → accept (growsBy (seats o)) [] ≡ growSeated w o
+      unfolding growSeated grown foundIn
+      grow-used none y = absurd (false≢true y)
+      grow-used (some x) y = refl
+
+      pub grow-seated : u .found ≡ true → (t : Slots) → t ≡ marked (u .slot) (u .table) → (c : Counts) → c ≡ addEviction (u .evicts) (w .state .meta)
           → (z : State) → z ≡ setEnd (w .state .end + 1) (w .state)
-          → (x : List ℕ) → x ≡ lay (w .buffer) (r .slot * pageSize w) (zeroPage w)
+          → (x : List ℕ) → x ≡ lay (w .buffer) (u .slot * pageSize w) (zeroPage w)
           → accept (grows t c z x) [] ≡ growReply kind w
-      unfolding growSeated grown
-      grow-seated n t f c h z more x l =
-          let s = seating-some (w .state .slots) r (seatFor w (w .state .end)) takes n in
-          let z′ : State = setEnd (w .state .end + 1) (w .state) in
+      grow-seated y t f c m z more x l =
           ap (λ (t : Slots). accept (grows t c z x) []) f
-          ∙ ap (λ (c : Counts). accept (grows (marked (r .slot) (r .table)) c z x) []) h
-          ∙ ap (λ (z : State). accept (grows (marked (r .slot) (r .table)) (addEviction (r .evicts) (w .state .meta)) z x) []) more
-          ∙ ap (λ (x : List ℕ). accept (grows (marked (r .slot) (r .table)) (addEviction (r .evicts) (w .state .meta)) z′ x) []) l
-          ∙ ap (λ (r : Seating). accept (grows (marked (r .slot) (r .table)) (addEviction (r .evicts) (w .state .meta)) z′ (lay (w .buffer) (r .slot * pageSize w) (zeroPage w))) []) (s .2)
-          ∙ sym (grow-meta k (some (s .0)) (s .1))
+          ∙ ap (λ (c : Counts). accept (grows (marked (u .slot) (u .table)) c z x) []) m
+          ∙ ap (λ (z : State). accept (grows (marked (u .slot) (u .table)) (addEviction (u .evicts) (w .state .meta)) z x) []) more
+          ∙ ap (λ (x : List ℕ). accept (grows (marked (u .slot) (u .table)) (addEviction (u .evicts) (w .state .meta)) (setEnd (w .state .end + 1) (w .state)) x) []) l
+          ∙ ap (λ (u : Use). accept (growsBy u) []) takes
+          ∙ grow-used (seatFor w (w .state .end)) (sym (ap (λ (u : Use). u .found) takes) ∙ y)
+          ∙ sym (grow-meta k (seatFor w (w .state .end)) refl)
 
 -- open
 module _ (s : Settings) (end B : ℕ) (w : World) where
@@ -223,7 +236,7 @@ module _ (s : Settings) (end B : ℕ) (w : World) where
   unfolding openReply
   open-refused n e ne z f =
       ap (λ (z : State). refuse (setState z w) [] n) f
-      ∙ refused-by (refuse (setState zeroState w) []) _ (openTests s end B w) n e ne
+      ∙ sym (refused-by (refuse (setState zeroState w) []) _ (openTests s end B w) n e ne)
 
   pub open-done : Opening s end B w → (z : State) → z ≡ openState s end B
       → (l : List ℕ) → l ≡ lay (w .ledger) 0 (replicate (ledgerLength s) 0)

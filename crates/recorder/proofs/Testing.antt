@@ -7,26 +7,21 @@ use native.Mathlib.Omega.{arith}
 use lib.Dec.{ltb, leb}
 use lib.ListN.{length, take, getD}
 use borrow.Author.Tests.{le-leb, lt-leb, le-ltb, lt-ltb}
-use Rattle.lists.specs.Bools.{both, false-of}
 use Rattle.lists.specs.Scans.{allOf}
 use Rattle.units.specs.Refusals as Refusals
 use Rattle.units.specs.Sizes.{top, limits, ledgerLength}
-use Rattle.units.specs.Tests.{Test, passes, verdict, verdict-passes}
+use Rattle.units.specs.Tests.{Test, passes, verdict, verdict-behind, verdict-none}
 use Rattle.units.specs.declared.Settings.{Settings}
-use Rattle.sidefile.specs.Passed.{verdict-before, verdict-behind, verdict-none}
 use Rattle.recorder.specs.Calls.{openTests, spanTests, growTests}
-use Rattle.recorder.specs.Facts.{rule-facts, long-facts}
+use Rattle.recorder.specs.Facts.{rule-facts, long-facts, stands-facts}
 use Rattle.recorder.specs.Outcome.{lent}
-use Rattle.recorder.specs.Rules.{rules, longEnough, kindRules, standing}
+use Rattle.recorder.specs.Rules.{longEnough, standing}
 use Rattle.recorder.specs.Tests.{lastTick}
 use Rattle.recorder.specs.World.{World}
 use Rattle.recorder.specs.declared.State.{State}
 use Rattle.recorder.proofs.Judging.{long-part}
 
 -- What every call but open begins with, and the tests behind it.
-
-pub stopped : (ts us : List Test) (n : ℕ) → n ≡ verdict ts → (n ≡ 0 → ⊥) → n ≡ verdict (ts ++ us)
-stopped ts us n e ne = e ∙ sym (verdict-before ts us (false-of (passes ts) (λ p. ne (e ∙ verdict-passes ts p))))
 
 module _ (w : World) where
   pub stands-passes : (n : ℕ) → n ≡ verdict (standing w) → n ≡ 0 → passes (standing w) ≡ true
@@ -37,11 +32,9 @@ module _ (w : World) where
   stands-behind n e z us = sym (verdict-behind (standing w) us (stands-passes n e z))
 
   pub stands-kinds : (n : ℕ) → n ≡ verdict (standing w) → n ≡ 0 → w .state .end ≤ length (w .kinds)
-  unfolding standing passes
   stands-kinds n e z =
-      let x = both (rules w) (longEnough (w .state .settings) w && (kindRules w && true)) (stands-passes n e z) in
-      let y = both (longEnough (w .state .settings) w) (kindRules w && true) (x .1) in
-      omega (arith, rule-facts w (x .0) .ended, long-facts (w .state .settings) w (y .0) .kinds-long)
+      let s = stands-facts w (stands-passes n e z) in
+      omega (arith, rule-facts w (s .ruled) .ended, s .long .kinds-long)
 
 -- Open.
 

@@ -66,8 +66,12 @@ foundIn (some i) seat = hit i
 foundIn none (some seat) = miss seat
 foundIn none none = nowhere
 
+-- the slot that a page gets if it is in none
+abbrev pub seatFor : World → ℕ → Option Seat
+seatFor w p = seated (slotCount w) (unclean w) p (w .state .slots)
+
 unfoldable pub found : World → ℕ → Found
-found w p = foundIn (slotFor w p) (seated (slotCount w) (unclean w) p (w .state .slots))
+found w p = foundIn (slotFor w p) (seatFor w p)
 
 -- the world with page p used in its slot; with page p loaded from the base into its new slot; with a bypass counted
 unfoldable pub hitWorld : World → ℕ → World
@@ -149,5 +153,5 @@ unfoldable pub growReply : ℕ → World → Reply
 growReply kind w =
     tested (standing w ++ growTests w kind) (refuse w [])
     (if-then (eqb kind 0)
-    (growSeated w (seated (slotCount w) (unclean w) (w .state .end) (w .state .slots)))
+    (growSeated w (seatFor w (w .state .end)))
     (accept (setBase (lay (w .base) (w .state .end * pageSize w) (zeroPage w)) (grown w 1)) []))

@@ -2,7 +2,8 @@
 -- plan that found enough of everything.
 use Prim.Native.Nat.{_<_, _≤_}
 use mathlib.Core.Path.{_≡_}
-use mathlib.Core.Bool.{true}
+use mathlib.Core.Bool.{Bool, true}
+use mathlib.Core.List.{List}
 use lib.ListN.{length}
 use Rattle.units.specs.Sizes.{top, sideLength, baseLength, bufferLength}
 use Rattle.units.specs.declared.Tick.{Tick}
@@ -12,7 +13,7 @@ use Rattle.recorder.specs.Rules.{rules}
 use Rattle.recorder.specs.World.{World}
 use Rattle.recorder.specs.declared.plan.Plan.{Plan}
 
-pub record Carries (w : World) (p : Plan) (N : Tick) : Type 0 where
+pub record Carries (w : World) (p : Plan) (going : List Bool) (N : Tick) : Type 0 where
   pub ruled : rules w ≡ true
   pub base-long : baseLength (w .state .settings) ≤ length (w .base)
   pub side-long : sideLength (w .state .settings) ≤ length (w .side)
@@ -20,4 +21,4 @@ pub record Carries (w : World) (p : Plan) (N : Tick) : Type 0 where
   pub low : w .state .closed .0 < top
   pub ticked : N ≡ openTick w
   pub enough : p .enough ≡ true
-  pub planned : Planned w p
+  pub planned : Planned w p going

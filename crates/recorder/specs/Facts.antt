@@ -1,7 +1,7 @@
 -- The state rules as facts, both ways: what a world has that passes the tests which every call but open begins with. Forged
 -- worlds among them: nothing here asks where a world came from. Assumes nothing.
 use Prim.Native.Nat.{ℕ, _+_, _*_, _<_, _≤_}
-use mathlib.Core.Path.{_≡_, refl, sym}
+use mathlib.Core.Path.{_≡_, refl}
 use mathlib.Core.List.{map}
 use mathlib.Core.Bool.{Bool, true, false, not, _&&_, _||_, false≢true}
 use mathlib.Core.Option.{Option, some}
@@ -10,11 +10,11 @@ use lib.Dec.{leb}
 use lib.ListN.{length}
 use borrow.Author.Tests.{eq-eqb, lt-ltb, le-leb, eqb-true, ltb-true, leb-true, not-true}
 use Rattle.lists.specs.Below.{below, every-from, all-from}
-use Rattle.lists.specs.Bools.{both, and-make, or-left, or-right}
-use Rattle.lists.specs.Scans.{Every, every-map, every-allOf, allOf-every, allOf}
+use Rattle.lists.specs.Bools.{both, and-make, or-left, or-right, or-drop}
+use Rattle.lists.specs.Scans.{Every, every-map, every-allOf, allOf-every, allOf, head, tail}
 use Rattle.units.specs.Bounds.{Within, limits-within}
 use Rattle.units.specs.Sizes.{top, limits, entries, places, firstImage, sideLength, baseLength, bufferLength, ledgerLength}
-use Rattle.units.specs.Tests.{passes}
+use Rattle.units.specs.Tests.{passes, passes-every}
 use Rattle.units.specs.declared.Settings.{Settings}
 use Rattle.sidefile.specs.Judge.{ascending, apart}
 use Rattle.slots.specs.Rules.{isSome, slotRules}
@@ -184,10 +184,6 @@ pub record KindFacts (w : World) : Type 0 where
   pub slot-kinds : (i : ℕ) → i < slotCount w → vacant (w .state .slots) i ≡ false → kindOf w (pageAt (w .state .slots) i) ≡ 0
   pub entry-kinds : Every (λ e. kindOf w (pageOf e) ≡ 0) (entriesOf w)
 
-occupied : (a b : Bool) → (a || b) ≡ true → a ≡ false → b ≡ true
-occupied true b h e = absurd (false≢true (sym e))
-occupied false b h e = h
-
 occupied-back : (a b : Bool) → (a ≡ false → b ≡ true) → (a || b) ≡ true
 occupied-back true b h = refl
 occupied-back false b h = h refl
@@ -201,7 +197,7 @@ kind-facts w h =
       slot-kinds =
           λ i m v.
           eqb-true (kindOf w (pageAt t i)) 0
-          (occupied (vacant t i) (metadata w (pageAt t i)) (all-from (λ i. vacant t i || metadata w (pageAt t i)) 0 (slotCount w) i (omega arith) (omega arith) (b .0)) v);
+          (or-drop (vacant t i) (metadata w (pageAt t i)) (all-from (λ i. vacant t i || metadata w (pageAt t i)) 0 (slotCount w) i (omega arith) (omega arith) (b .0)) v);
       entry-kinds = every-map (λ e k. eqb-true (kindOf w (pageOf e)) 0 k) (entriesOf w) (allOf-every (λ e. metadata w (pageOf e)) (entriesOf w) (b .1));
     }
 
@@ -228,19 +224,28 @@ pub ruled-passes : (w : World) → Ruled w → passes (standing w) ≡ true
 unfolding standing passes
 ruled-passes w r = rw (rule-back w (r .facts), long-back (w .state .settings) w (r .lengths), kind-back w (r .kinds))
 
+-- what the tests that every call but open begins with say
+pub record Stands (w : World) : Type 0 where
+  pub ruled : rules w ≡ true
+  pub long : Lengths (w .state .settings) w
+  pub kinds : kindRules w ≡ true
+
+pub stands-facts : (w : World) → passes (standing w) ≡ true → Stands w
+unfolding standing
+stands-facts w h =
+    let e = passes-every (standing w) h in
+    record { ruled = head e; long = long-facts (w .state .settings) w (head (tail e)); kinds = head (tail (tail e)) }
+
 pub passes-ruled : (w : World) → Whole (w .state .slots) → w .state .closed .0 ≤ top → Every Small (entriesOf w) → passes (standing w) ≡ true → Ruled w
-unfolding standing passes
 passes-ruled w a t m h =
-    let x = both (rules w) (longEnough (w .state .settings) w && (kindRules w && true)) h in
-    let y = both (longEnough (w .state .settings) w) (kindRules w && true) (x .1) in
-    let z = both (kindRules w) true (y .1) in
+    let s = stands-facts w h in
     record {
       whole = a;
       tick = t;
       small = m;
-      facts = rule-facts w (x .0);
-      lengths = long-facts (w .state .settings) w (y .0);
-      kinds = kind-facts w (z .0);
+      facts = rule-facts w (s .ruled);
+      lengths = s .long;
+      kinds = kind-facts w (s .kinds);
     }
 
 -- what else follows

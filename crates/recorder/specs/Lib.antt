@@ -1,3 +1,4 @@
+pub mod Asked
 pub mod Calls
 pub mod Carried
 pub mod Close

@@ -1,36 +1,28 @@
--- A metadata page used, wherever it is found: the slot, the world with it there, and what the code's answer says of it; and
--- what must hold for it to be brought in.
-use Prim.Native.Nat.{ℕ, _*_, _<_, _≤_}
-use mathlib.Core.Path.{_≡_}
+-- A metadata page used, wherever it is found: what the code answers of it, what it counts as, and what the buffer then has in
+-- the page's slot.
+use Prim.Native.Nat.{ℕ}
 use mathlib.Core.Bool.{Bool, true, false}
-use lib.ListN.{length}
-use Rattle.recorder.specs.World.{World, pageSize, slotCount}
-use Rattle.recorder.specs.Rules.{rules}
-use Rattle.recorder.specs.Calls.{Found, hit, miss, nowhere, hitWorld, missWorld}
-use Rattle.recorder.specs.declared.buffer.Used.{Used}
+use mathlib.Core.List.{List}
+use Rattle.octets.specs.Part.{lay}
+use Rattle.slots.specs.Table.{touched}
+use Rattle.slots.specs.declared.Slots.{Slots}
+use Rattle.recorder.specs.World.{addHit, addMiss}
+use Rattle.recorder.specs.Calls.{Found, hit, miss, nowhere}
+use Rattle.recorder.specs.declared.Counts.{Counts}
+use Rattle.recorder.specs.declared.buffer.Use.{Use}
 
-abbrev pub isFound : Found → Bool
-isFound (hit i) = true
-isFound (miss seat) = true
-isFound nowhere = false
+-- the slot of page p and the table t with the page used in it; nowhere, the table as it was
+abbrev pub useOf : Slots → ℕ → Found → Use
+useOf t p (hit i) = record { found = true; hit = true; evicts = false; slot = i; table = touched p t }
+useOf t p (miss seat) = record { found = true; hit = false; evicts = seat .evicts; slot = seat .slot; table = seat .table }
+useOf t p nowhere = record { found = false; hit = false; evicts = false; slot = 0; table = t }
 
-abbrev pub slotIn : Found → ℕ
-slotIn (hit i) = i
-slotIn (miss seat) = seat .slot
-slotIn nowhere = 0
+-- a hit, or a miss that evicts or not
+abbrev pub addUse : Bool → Bool → Counts → Counts
+addUse true evicts c = addHit c
+addUse false evicts c = addMiss evicts c
 
--- the world with page p used; where it is nowhere, as it was
-unfoldable pub usedWorld : World → ℕ → Found → World
-usedWorld w p (hit i) = hitWorld w p
-usedWorld w p (miss seat) = missWorld w p seat
-usedWorld w p nowhere = w
-
-abbrev pub used : World → ℕ → Found → Used
-used w p f = record { found = isFound f; slot = slotIn f; state = usedWorld w p f .state }
-
--- a page that can be brought in
-pub record Usable (w : World) (p : ℕ) : Type 0 where
-  pub ruled : rules w ≡ true
-  pub low : p < w .state .end
-  pub base-long : w .state .settings .capacity * pageSize w ≤ length (w .base)
-  pub buffer-long : slotCount w * pageSize w ≤ length (w .buffer)
+-- the buffer with a page's bytes at its slot: on a hit they are there
+unfoldable pub broughtTo : Bool → List ℕ → ℕ → List ℕ → List ℕ
+broughtTo true xs at page = xs
+broughtTo false xs at page = lay xs at page

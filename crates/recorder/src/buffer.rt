@@ -1,32 +1,32 @@
-// The page buffer: which slots may not be chosen, the slot that a page gets, and a metadata page brought in for a read or a
-// write.
-use crate::Counts;
+// The page buffer: which slots may not be chosen, the slot in which a page is used, and the page's bytes there. States are
+// taken by value and none is handed back: what is changed comes as the new table alone.
 use crate::State;
 use ledger::search;
 use sidefile::wide;
 use slots::Found;
-use slots::Seating;
 use slots::Slots;
 use units::Page;
 ghost use mathlib.Core.Path.{_≡_};
 ghost use mathlib.Core.Bool.{true};
 ghost use mathlib.Core.List.{[], map};
-ghost use mathlib.Core.Option.{none};
+ghost use Prim.Native.Nat.{_+_, _*_, _≤_};
+ghost use lib.ListN.{length};
 ghost use Rattle.lists.specs.Below.{below};
-ghost use Rattle.slots.specs.Answers.{seating};
-ghost use Rattle.slots.specs.Table.{seated};
+ghost use Rattle.octets.specs.Part.{part};
 ghost use Rattle.recorder.specs.Calls as Calls;
 ghost use Rattle.recorder.specs.Calls.{unclean};
 ghost use Rattle.recorder.specs.Outcome.{lent};
 ghost use Rattle.recorder.specs.Rules.{rules};
-ghost use Rattle.recorder.specs.Using.{Usable, used, usedWorld};
-ghost use Rattle.recorder.specs.World.{slotFor};
+ghost use Rattle.recorder.specs.Using.{useOf, broughtTo};
 
-// The slot of a page, and the state with the page used in it. Where there is none the state is as it was.
-pub struct Used {
+// The slot in which a page is used: its own, a hit, or one that it takes, for which a page may have to go. The table is the
+// one after the use. Without a slot there is none to take, and the table is as it was.
+pub struct Use {
     pub found: bool,
+    pub hit: bool,
+    pub evicts: bool,
     pub slot: usize,
-    pub state: State,
+    pub table: Slots,
 }
 
 // Which slots may not be chosen: those of changed and of owed pages.
@@ -48,63 +48,41 @@ fn unclean_slots(state: State, ledger: &[u8]) -> [bool; 16]
     mask
 }
 
-// The slot that a page gets which is in none.
-pub fn seat_for(state: State, ledger: &[u8], page: Page) -> Seating
-    requires { ⌜ rules (lent state (now ledger) [] [] [] []) ≡ true ⌝ }
-    ensures { λ r. ⌜ r ≡ seating (state .slots) (seated (state .settings .slots) (unclean (lent state (now (ledger .entry)) [] [] [] [])) (page .0) (state .slots)) ⌝ }
-{
-    let table = state.slots;
-    let mask = unclean_slots(state, ledger);
-    table.seat(wide(state.settings.slots), mask, page)
-}
-
-// A page that is in no slot: loaded from the base, a miss.
-fn load(state: State, ledger: &[u8], base: &[u8], buffer: &mut [u8], page: Page) -> Used
-    requires { ⌜ Usable (lent state (now ledger) (now base) [] (now buffer) []) (page .0) × (slotFor (lent state (now ledger) (now base) [] (now buffer) []) (page .0) ≡ none) ⌝ }
-    ensures { λ r. ⌜ (r ≡ used (lent state (now (ledger .entry)) (now (base .entry)) [] (now (buffer .entry)) []) (page .0) (Calls.found (lent state (now (ledger .entry)) (now (base .entry)) [] (now (buffer .entry)) []) (page .0))) × (now (buffer .exit) ≡ usedWorld (lent state (now (ledger .entry)) (now (base .entry)) [] (now (buffer .entry)) []) (page .0) (Calls.found (lent state (now (ledger .entry)) (now (base .entry)) [] (now (buffer .entry)) []) (page .0)) .buffer) ⌝ }
-{
-    let seat = seat_for(state, ledger, page);
-    if !seat.found {
-        return Used {
-            found: false,
-            slot: 0,
-            state,
-        };
-    }
-    let size = wide(state.settings.size);
-    octets::copy(base, wide(page.0) * size, buffer, seat.slot * size, size);
-    let table = seat.table;
-    let counts = state.meta;
-    Used {
-        found: true,
-        slot: seat.slot,
-        state: State {
-            slots: table,
-            meta: counts.miss(seat.evicts),
-            ..state
-        },
-    }
-}
-
-// A metadata page used: in its slot, a hit, or loaded.
-pub fn bring_in(state: State, ledger: &[u8], base: &[u8], buffer: &mut [u8], page: Page) -> Used
-    requires { ⌜ Usable (lent state (now ledger) (now base) [] (now buffer) []) (page .0) ⌝ }
-    ensures { λ r. ⌜ (r ≡ used (lent state (now (ledger .entry)) (now (base .entry)) [] (now (buffer .entry)) []) (page .0) (Calls.found (lent state (now (ledger .entry)) (now (base .entry)) [] (now (buffer .entry)) []) (page .0))) × (now (buffer .exit) ≡ usedWorld (lent state (now (ledger .entry)) (now (base .entry)) [] (now (buffer .entry)) []) (page .0) (Calls.found (lent state (now (ledger .entry)) (now (base .entry)) [] (now (buffer .entry)) []) (page .0)) .buffer) ⌝ }
+// A page used: one of the file's, or the next that it gets. No byte of it is copied here, and nothing is counted.
+pub fn slot_for(state: State, ledger: &[u8], page: Page) -> Use
+    requires { ⌜ (rules (lent state (now ledger) [] [] [] []) ≡ true) × (page .0 ≤ state .end) ⌝ }
+    ensures { λ r. ⌜ r ≡ useOf (state .slots) (page .0) (Calls.found (lent state (now (ledger .entry)) [] [] [] []) (page .0)) ⌝ }
 {
     let table = state.slots;
     match table.slot_of(wide(state.settings.slots), page) {
-        Found::At(i) => {
-            let counts = state.meta;
-            Used {
-                found: true,
-                slot: i,
-                state: State {
-                    slots: table.touch(page),
-                    meta: counts.hit(),
-                    ..state
-                },
+        Found::At(i) => Use {
+            found: true,
+            hit: true,
+            evicts: false,
+            slot: i,
+            table: table.touch(page),
+        },
+        Found::Nothing => {
+            let mask = unclean_slots(state, ledger);
+            let seat = table.seat(wide(state.settings.slots), mask, page);
+            let after = seat.table;
+            Use {
+                found: seat.found,
+                hit: false,
+                evicts: seat.evicts,
+                slot: seat.slot,
+                table: after,
             }
         }
-        Found::Nothing => load(state, ledger, base, buffer, page),
+    }
+}
+
+// The bytes of a page in its slot: they are there on a hit, else they come from the base.
+pub fn bring(hit: bool, base: &[u8], page: Page, buffer: &mut [u8], slot: usize, size: usize)
+    requires { ⌜ (page .0 * size + size ≤ length (now base)) × (slot * size + size ≤ length (now buffer)) ⌝ }
+    ensures { λ _. ⌜ now (buffer .exit) ≡ broughtTo «hit» (now (buffer .entry)) (slot * size) (part (now (base .entry)) (page .0 * size) size) ⌝ }
+{
+    if !hit {
+        octets::copy(base, wide(page.0) * size, buffer, slot * size, size);
     }
 }

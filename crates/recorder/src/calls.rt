@@ -157,14 +157,20 @@ pub fn read(
         octets::copy(base, in_base, into, 0, n);
         return Answer::accepted(state.raw_bypass());
     }
-    let used = buffer::bring_in(state, ledger, base, buffer, page);
-    if used.found {
-        octets::copy(buffer, used.slot * size + wide(offset), into, 0, n);
-        let after = used.state;
-        return Answer::accepted(after);
+    let used = buffer::slot_for(state, ledger, page);
+    if !used.found {
+        octets::copy(base, in_base, into, 0, n);
+        return Answer::accepted(state.meta_bypass());
     }
-    octets::copy(base, in_base, into, 0, n);
-    Answer::accepted(state.meta_bypass())
+    buffer::bring(used.hit, base, page, buffer, used.slot, size);
+    octets::copy(buffer, used.slot * size + wide(offset), into, 0, n);
+    let table = used.table;
+    let counts = state.meta;
+    Answer::accepted(State {
+        slots: table,
+        meta: counts.used(used.hit, used.evicts),
+        ..state
+    })
 }
 
 // The bytes laid over a page at an offset. 3, 2, 4, 5, 6, 7 or 0.
@@ -191,16 +197,18 @@ pub fn write(
         octets::copy(bytes, 0, base, wide(page.0) * size + wide(offset), n);
         return Answer::accepted(state.raw_bypass());
     }
-    let used = buffer::bring_in(state, ledger, base, buffer, page);
+    let used = buffer::slot_for(state, ledger, page);
     if !used.found {
         return Answer::refused(refusal::NO_SLOT, state);
     }
+    buffer::bring(used.hit, base, page, buffer, used.slot, size);
     octets::copy(bytes, 0, buffer, used.slot * size + wide(offset), n);
-    let after = used.state;
-    let table = after.slots;
+    let table = used.table;
+    let counts = state.meta;
     Answer::accepted(State {
         slots: table.mark(used.slot),
-        ..after
+        meta: counts.used(used.hit, used.evicts),
+        ..state
     })
 }
 
@@ -227,18 +235,18 @@ pub fn grow(
         kinds[end] = RAW;
         return Answer::accepted(state.grown());
     }
-    let seat = buffer::seat_for(state, ledger, Page(state.end));
-    if !seat.found {
+    let used = buffer::slot_for(state, ledger, Page(state.end));
+    if !used.found {
         return Answer::refused(refusal::NO_SLOT, state);
     }
-    octets::clear(buffer, seat.slot * size, size);
+    octets::clear(buffer, used.slot * size, size);
     kinds[end] = METADATA;
-    let table = seat.table;
+    let table = used.table;
     let counts = state.meta;
     let grown = state.grown();
     Answer::accepted(State {
-        slots: table.mark(seat.slot),
-        meta: counts.eviction(seat.evicts),
+        slots: table.mark(used.slot),
+        meta: counts.eviction(used.evicts),
         ..grown
     })
 }

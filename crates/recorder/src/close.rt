@@ -1,5 +1,5 @@
 // The close of a tick (document 01, "Close"). Nothing is written before it is sure to be accepted; then the stores are made in
-// their order: images, base pages, index, header. The ledger, which no desk sees, is renewed in between.
+// their order: images, base pages, index, header. The ledger, which no desk sees, is renewed along the way.
 use crate::Answer;
 use crate::State;
 use crate::front;
@@ -8,8 +8,8 @@ use crate::plan::Plan;
 use crate::stores;
 use crate::tests;
 use ledger::renewal;
-use ledger::renewal::Fresh;
 use sidefile::wide;
+use units::Settings;
 use units::Tick;
 use units::refusal;
 ghost use mathlib.Core.Path.{_≡_};
@@ -27,31 +27,18 @@ fn carry_out(
     side: &mut [u8],
     buffer: &[u8],
     plan: Plan,
+    going: &[bool; Settings::MOST_ENTRIES],
     tick: Tick,
 ) -> State
-    requires { ⌜ ((kinds : List ℕ) → Carries (lent state (now ledger) (now base) (now side) (now buffer) kinds) plan tick) ⌝ }
+    requires { ⌜ ((kinds : List ℕ) → Carries (lent state (now ledger) (now base) (now side) (now buffer) kinds) plan (now going) tick) ⌝ }
     ensures { λ r. ⌜ ((kinds : List ℕ) → lent r (now (ledger .exit)) (now (base .exit)) (now (side .exit)) (now (buffer .entry)) kinds ≡ closed (lent state (now (ledger .entry)) (now (base .entry)) (now (side .entry)) (now (buffer .entry)) kinds)) ⌝ }
 {
     let pages = plan.pages;
     let places = plan.places;
     let entered = plan.entered;
-    let going = plan.going;
+    let kept = renewal::settle(ledger, state.settings, wide(state.entries), going, tick);
     let sums = stores::write_images(state, buffer, side, pages, places, plan.count);
-    let fresh = Fresh {
-        pages,
-        places,
-        sums,
-        entered,
-        count: plan.count,
-    };
-    let n = renewal::renew(
-        ledger,
-        state.settings,
-        wide(state.entries),
-        going,
-        fresh,
-        tick,
-    );
+    let n = renewal::put_all(ledger, kept, pages, places, sums, entered, plan.count, tick);
     stores::write_due(state, ledger, n, buffer, base, tick);
     front::write_front(ledger, state.settings, n, tick, state.end, side);
     let table = state.slots;
@@ -79,14 +66,15 @@ pub fn close(
         return Answer { number, state };
     }
     let tick = Tick(state.closed.0 + 1);
-    let plan = plan::of_close(state, ledger, tick);
+    let mut going = [false; Settings::MOST_ENTRIES];
+    let plan = plan::of_close(state, ledger, tick, &mut going);
     if !plan.enough {
         return Answer {
             number: refusal::NO_PLACE,
             state,
         };
     }
-    let after = carry_out(state, ledger, base, side, buffer, plan, tick);
+    let after = carry_out(state, ledger, base, side, buffer, plan, &going, tick);
     Answer {
         number: 0,
         state: after,

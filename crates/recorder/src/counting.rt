@@ -1,6 +1,7 @@
 // The counts (document 01, "Counts"): what a hit, a miss, an eviction and a bypass add. Each stops at the largest number.
 use crate::Counts;
 ghost use mathlib.Core.Path.{_≡_};
+ghost use Rattle.recorder.specs.Using.{addUse};
 ghost use Rattle.recorder.specs.World as World;
 
 const MOST: u32 = 4294967295;
@@ -27,7 +28,7 @@ impl Counts {
         }
     }
 
-    pub fn hit(mut self) -> Counts
+    fn hit(mut self) -> Counts
         ensures { λ r. ⌜ r ≡ World.addHit self ⌝ }
     {
         self.accesses = bump(self.accesses);
@@ -44,12 +45,22 @@ impl Counts {
         self
     }
 
-    pub fn miss(mut self, evicts: bool) -> Counts
+    fn miss(mut self, evicts: bool) -> Counts
         ensures { λ r. ⌜ r ≡ World.addMiss «evicts» self ⌝ }
     {
         self.accesses = bump(self.accesses);
         self.misses = bump(self.misses);
         self.eviction(evicts)
+    }
+
+    // A page used in its slot, or in one that it took.
+    pub fn used(self, hit: bool, evicts: bool) -> Counts
+        ensures { λ r. ⌜ r ≡ addUse «hit» «evicts» self ⌝ }
+    {
+        if hit {
+            return self.hit();
+        }
+        self.miss(evicts)
     }
 
     pub fn bypass(mut self) -> Counts

@@ -12,6 +12,7 @@ use units::Tick;
 ghost use mathlib.Core.Path.{_≡_};
 ghost use mathlib.Core.Bool.{true};
 ghost use mathlib.Core.List.{[]};
+ghost use lib.ListN.{length};
 ghost use Rattle.recorder.specs.Close.{openTick};
 ghost use Rattle.recorder.specs.Outcome.{lent};
 ghost use Rattle.recorder.specs.Planned.{Planned};
@@ -24,12 +25,17 @@ pub struct Plan {
     pub pages: [Page; 16],
     pub places: [Place; 16],
     pub entered: [Tick; 16],
-    pub going: [bool; Settings::MOST_ENTRIES],
 }
 
-pub fn of_close(state: State, ledger: &[u8], tick: Tick) -> Plan
-    requires { ⌜ (rules (lent state (now ledger) [] [] [] []) ≡ true) × (tick ≡ openTick (lent state (now ledger) [] [] [] [])) ⌝ }
-    ensures { λ r. ⌜ Planned (lent state (now (ledger .entry)) [] [] [] []) r ⌝ }
+// Flags the rows that leave, in a table that the close lends.
+pub fn of_close(
+    state: State,
+    ledger: &[u8],
+    tick: Tick,
+    going: &mut [bool; Settings::MOST_ENTRIES],
+) -> Plan
+    requires { ⌜ (rules (lent state (now ledger) [] [] [] []) ≡ true) × (tick ≡ openTick (lent state (now ledger) [] [] [] [])) × (length (now going) ≡ 144) ⌝ }
+    ensures { λ r. ⌜ Planned (lent state (now (ledger .entry)) [] [] [] []) r (now (going .exit)) ⌝ }
 {
     let settings = state.settings;
     let n = wide(state.entries);
@@ -38,17 +44,14 @@ pub fn of_close(state: State, ledger: &[u8], tick: Tick) -> Plan
     let count = changed.count;
     let pages = changed.pages;
     let free = places::free_places(ledger, settings, n, tick, count);
-    let retiring = retiring::retiring_rows(ledger, n, pages, count, settings.wait(), tick);
-    let going = retiring.rows;
+    let entered = retiring::retiring_rows(ledger, n, pages, count, settings.wait(), tick, going);
     let later = renewal::staying(going, n) + count;
     let given = free.places;
-    let entered = retiring.entered;
     Plan {
         enough: free.count == count && later <= settings.entries(),
         count,
         pages,
         places: given,
         entered,
-        going,
     }
 }

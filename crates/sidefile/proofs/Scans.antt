@@ -9,7 +9,7 @@ use lib.Dec.{eqb, ltb}
 use lib.ListN.{length, take, drop, set, getD, replicate, length-set, length-replicate, drop-of-length-le}
 use lib.Seq.{getD-set-same, getD-set-other, getD-drop, getD-take, drop-cons}
 use borrow.Author.Tests.{eq-eqb, ne-eqb, lt-ltb, le-ltb, le-leb, lt-leb, eqb-true, eqb-false, ltb-true}
-use Rattle.lists.specs.Bools.{both, and-right}
+use Rattle.lists.specs.Bools.{both, and-right, and-yes}
 use Rattle.lists.specs.Scans.{anyOf, allOf}
 use Rattle.octets.specs.Part.{part, length-part}
 use Rattle.octets.specs.Rows.{row}
@@ -86,10 +86,6 @@ fresh-is most met (x ∷ xs) h =
         ∙ rw (all-marked most (place x) met (omega arith) xs)
         (swap (allOf (λ y. free most met (place y)) xs) (not (anyOf (λ y. eqb (place y) (place x)) xs)) (apart xs))
     go false e ih = refl
-
-and-yes : (b : Bool) → (b && true) ≡ b
-and-yes true = refl
-and-yes false = refl
 
 -- none was met
 unfoldable pub noneMet : List Bool

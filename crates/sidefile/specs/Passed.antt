@@ -1,21 +1,20 @@
--- What tests that pass tell, and what tests that fail answer: lists of tests, and those of a side file at the judge's three
--- extents. A caller that was given 0 has these facts. Assumes nothing.
-use Prim.Native.Nat.{ℕ, zero, suc, _+_, _-_, _*_, _≤_, _<_, min}
-use mathlib.Core.Path.{_≡_, refl, _∙_, sym}
-use mathlib.Core.Bool.{Bool, true, false, _&&_, true≢false}
-use mathlib.Core.List.{List, [], _∷_, _++_}
+-- What tests that pass tell, and what tests that fail answer: those of a side file at the judge's three extents. A caller
+-- that was given 0 has these facts. Assumes nothing.
+use Prim.Native.Nat.{ℕ, _+_, _-_, _*_, _≤_, _<_, min}
+use mathlib.Core.Path.{_≡_, refl}
+use mathlib.Core.Bool.{Bool, true, false}
+use mathlib.Core.List.{List, _++_}
 use native.Mathlib.Omega.{arith}
 use lib.Dec.{eqb, ltb, leb}
-use lib.ListN.{length, take, drop, getD}
+use lib.ListN.{length, take}
 use borrow.Author.Tests.{leb-true, ltb-true, eqb-true}
-use Rattle.lists.specs.Bools.{if-then, both, and-right}
 use Rattle.lists.specs.Scans.{Every, head, tail, allOf, every-map, allOf-every}
 use Rattle.octets.specs.Number.{le16, le32}
 use Rattle.octets.specs.Part.{part}
 use Rattle.units.specs.Bounds.{limits-within, indexEnd-most, firstImage-least}
 use Rattle.units.specs.Refusals.{foreign, damaged}
 use Rattle.units.specs.Sizes.{headerLength, indexRow, limits, entries, places, indexEnd, sideLength}
-use Rattle.units.specs.Tests.{Test, passes, verdict, numbered, passes-every}
+use Rattle.units.specs.Tests.{passes, verdict, passes-every, passes-both, verdict-by, verdict-none}
 use Rattle.units.specs.declared.Settings.{Settings}
 use Rattle.sidefile.specs.declared.IndexEntry.{IndexEntry}
 use Rattle.sidefile.specs.Encode.{checksum, headerOf, indexOf}
@@ -29,77 +28,6 @@ asks false n = holds n
 -- header and index at the largest settings
 abbrev pub mostFront : ℕ
 mostFront = headerLength + indexRow * 144
-
--- Lists of tests.
-
-and-yes : (b : Bool) → (b && true) ≡ b
-and-yes true = refl
-and-yes false = refl
-
--- test k fails; all pass before the last, which then decides
-pub fails-at : (k : ℕ) (ts : List Test) → getD ts k (0, true) .1 ≡ false → passes ts ≡ false
-unfolding passes
-fails-at k [] e = absurd (true≢false e)
-fails-at zero (t ∷ ts) e = rw e
-fails-at (suc k) (t ∷ ts) e = and-right (t .1) (passes ts) (fails-at k ts e)
-
-pub passes-last : (k : ℕ) (ts : List Test) (t : Test) → drop k ts ≡ t ∷ [] → Every (λ t. t .1 ≡ true) (take k ts) → passes ts ≡ t .1
-unfolding passes
-passes-last zero ts t d e = rw d (and-yes (t .1))
-passes-last (suc k) [] t d e = let z : _≡_ {A = ℕ} 0 1 = cc in absurd (omega arith)
-passes-last (suc k) (u ∷ ts) t d e = rw (head e) (passes-last k ts t d (tail e))
-
--- one list behind another
-pub passes-and : (ts us : List Test) → passes (ts ++ us) ≡ (passes ts && passes us)
-unfolding passes
-passes-and [] us = refl
-passes-and (t ∷ ts) us = rw (passes-and ts us) (and-assoc (t .1) (passes ts) (passes us))
-  where
-    and-assoc : (a b c : Bool) → (a && (b && c)) ≡ ((a && b) && c)
-    and-assoc true b c = refl
-    and-assoc false b c = refl
-
-pub passes-parts : (ts us : List Test) → passes (ts ++ us) ≡ true → (passes ts ≡ true) × (passes us ≡ true)
-passes-parts ts us e = both (passes ts) (passes us) (sym (passes-and ts us) ∙ e)
-
-pub verdict-behind : (ts us : List Test) → passes ts ≡ true → verdict (ts ++ us) ≡ verdict us
-unfolding passes verdict
-verdict-behind [] us e = refl
-verdict-behind (t ∷ ts) us e = let b = both (t .1) (passes ts) e in rw (b .0) (verdict-behind ts us (b .1))
-
-pub verdict-before : (ts us : List Test) → passes ts ≡ false → verdict (ts ++ us) ≡ verdict ts
-unfolding passes verdict
-verdict-before [] us e = absurd (true≢false e)
-verdict-before (t ∷ ts) us e = go (t .1) e (verdict-before ts us)
-  where
-    go : (c : Bool) → (c && passes ts) ≡ false → (passes ts ≡ false → verdict (ts ++ us) ≡ verdict ts)
-        → if-then c (verdict (ts ++ us)) (t .0) ≡ if-then c (verdict ts) (t .0)
-    go true e ih = ih e
-    go false e ih = refl
-
--- tests that all refuse by k
-pub verdict-by : (k : ℕ) (ts : List Test) → allOf (λ t. eqb (t .0) k) ts ≡ true → passes ts ≡ false → verdict ts ≡ k
-unfolding passes verdict allOf
-verdict-by k [] a e = absurd (true≢false e)
-verdict-by k (t ∷ ts) a e =
-    let b = both (eqb (t .0) k) (allOf (λ t. eqb (t .0) k) ts) a in
-    go (t .1) (eqb-true (t .0) k (b .0)) e (verdict-by k ts (b .1))
-  where
-    go : (c : Bool) → t .0 ≡ k → (c && passes ts) ≡ false → (passes ts ≡ false → verdict ts ≡ k) → if-then c (verdict ts) (t .0) ≡ k
-    go true z e ih = ih e
-    go false z e ih = z
-
--- a verdict of 0, where no test refuses by 0
-pub verdict-none : (ts : List Test) → allOf numbered ts ≡ true → verdict ts ≡ 0 → passes ts ≡ true
-unfolding passes verdict allOf
-verdict-none [] a e = refl
-verdict-none (t ∷ ts) a e =
-    let b = both (numbered t) (allOf numbered ts) a in
-    go (t .1) (ltb-true 0 (t .0) (b .0)) e (verdict-none ts (b .1))
-  where
-    go : (c : Bool) → 0 < t .0 → if-then c (verdict ts) (t .0) ≡ 0 → (verdict ts ≡ 0 → passes ts ≡ true) → (c && passes ts) ≡ true
-    go true z e ih = ih e
-    go false z e ih = absurd (omega arith)
 
 -- The tests of a side file.
 
@@ -217,13 +145,13 @@ pub record AllPassed (long : Settings → Bool) (xs : List ℕ) : Type 0 where
 module _ (long : Settings → Bool) (xs : List ℕ) where
   parts-passed : passes (markTests xs ++ headerTests long xs) ≡ true → FrontPassed long xs
   parts-passed e =
-      let a = passes-parts (markTests xs) (headerTests long xs) e in
+      let a = passes-both (markTests xs) (headerTests long xs) e in
       record { whole = mark-length xs (a .0); header = header-passed long xs (a .1) }
 
   all-passed : passes (markTests xs ++ (headerTests long xs ++ indexTests xs)) ≡ true → AllPassed long xs
   all-passed e =
-      let a = passes-parts (markTests xs) (headerTests long xs ++ indexTests xs) e in
-      let b = passes-parts (headerTests long xs) (indexTests xs) (a .1) in
+      let a = passes-both (markTests xs) (headerTests long xs ++ indexTests xs) e in
+      let b = passes-both (headerTests long xs) (indexTests xs) (a .1) in
       record {
         front = record { whole = mark-length xs (a .0); header = header-passed long xs (b .0) };
         index = index-passed xs (b .1);

@@ -1,7 +1,7 @@
 -- Tables of entries in bytes: rows of equal width whose first four columns are those of an index entry. The index of a side
 -- file is one, from byte 36 on, and so are the ledger's entries, whose rows are wider. What the judge asks of pages, places
 -- and last changes, and where an entry stands; laws for scans, row by row. Assumes nothing.
-use Prim.Native.Nat.{ℕ, zero, suc, _+_, _*_, _<_, _≤_}
+use Prim.Native.Nat.{ℕ, suc, _+_, _*_, _<_, _≤_}
 use mathlib.Core.Path.{_≡_, refl, _∙_, sym, ap}
 use mathlib.Core.Bool.{Bool, true, false, _&&_}
 use mathlib.Core.List.{List, [], _∷_, map}
@@ -11,6 +11,7 @@ use lib.Dec.{eqb, ltb, leb}
 use lib.ListN.{length, take, drop, length-map, drop-of-length-le}
 use lib.Seq.{drop-drop}
 use Rattle.lists.specs.Bools.{if-then}
+use Rattle.lists.specs.Maps.{map-drop}
 use Rattle.lists.specs.Scans.{allOf, first}
 use Rattle.octets.specs.Number.{le, le32, le-take}
 use Rattle.octets.specs.Part.{part, part-part}
@@ -82,11 +83,6 @@ pub index-entries : (xs : List ℕ) → indexOf xs ≡ entriesAt headerLength in
 unfolding indexOf entriesAt
 index-entries xs = refl
 
-drop-map : {A B : Type 0} (f : A → B) (i : ℕ) (l : List A) → drop i (map f l) ≡ map f (drop i l)
-drop-map f zero l = refl
-drop-map f (suc i) [] = refl
-drop-map f (suc i) (x ∷ l) = drop-map f i l
-
 module _ (at w n : ℕ) (xs : List ℕ) where
   pub length-entriesAt : length (entriesAt at w n xs) ≡ n
   unfolding entriesAt
@@ -108,10 +104,10 @@ module _ (at w n : ℕ) (xs : List ℕ) where
   unfolding entriesAt row part
   entry-next i h =
       rw (
-        drop-map indexEntryOf i (rows w n (drop at xs)),
+        map-drop indexEntryOf i (rows w n (drop at xs)),
         row-next w i n (drop at xs) h,
         drop-drop (i * w) at xs,
-        drop-map indexEntryOf (i + 1) (rows w n (drop at xs)),
+        map-drop indexEntryOf (i + 1) (rows w n (drop at xs)),
       )
 
   pub entries-end : (i : ℕ) → n ≤ i → drop i (entriesAt at w n xs) ≡ []

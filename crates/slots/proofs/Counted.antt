@@ -14,10 +14,11 @@ use borrow.Author.Tests.{lt-ltb, le-leb, eqb-true, ltb-true, leb-true, not-true}
 use Rattle.lists.specs.Below.{from, below, length-from, get-from, all-from}
 use Rattle.lists.specs.Bools.{if-then, both, false-of, not-both}
 use Rattle.lists.specs.Scans.{Every, every-map, every-allOf, allOf-every, allOf}
+use Rattle.units.specs.Pages.{numbersOf}
 use Rattle.units.specs.declared.Page.{Page}
 use Rattle.slots.specs.Table.{toPage, noPage, pageAt, vacant, changedAt, slotOf, uses, times}
 use Rattle.slots.specs.Rules.{slotRules}
-use Rattle.slots.specs.Judged.{listed, rowKept, useKept}
+use Rattle.slots.specs.Judged.{rowKept, useKept}
 use Rattle.slots.specs.Order.{times-here, times-next, every-there, all-below}
 use Rattle.slots.specs.Sits.{Whole, Sits, Listed, sits, sits-back, vacant-page, occupied, slot-found, slot-only, slot-alone, slot-unchanged}
 use Rattle.slots.specs.declared.Slots.{Slots}
@@ -77,19 +78,19 @@ module _ (f : ℕ → ℕ) (x : ℕ) where
           above j k e (no d) = omega (arith, d)
 
 -- the rows as numbers below 16
-rows : (t : Slots) → Whole t → listed 16 (t .pages) ≡ map (pageAt t) (below 16)
+rows : (t : Slots) → Whole t → numbersOf 16 (t .pages) ≡ map (pageAt t) (below 16)
 unfolding pageAt
 rows t w =
-    ext-getD 0 (listed 16 (t .pages)) (map (pageAt t) (below 16)) (long ∙ sym (length-map (below 16) (pageAt t) ∙ length-from 0 16))
+    ext-getD 0 (numbersOf 16 (t .pages)) (map (pageAt t) (below 16)) (long ∙ sym (length-map (below 16) (pageAt t) ∙ length-from 0 16))
     (λ i h. same i (omega (arith, long)))
   where
     all : take 16 (t .pages) ≡ t .pages
     all = take-all 16 (t .pages) (omega (arith, w .pages))
 
-    long : length (listed 16 (t .pages)) ≡ 16
+    long : length (numbersOf 16 (t .pages)) ≡ 16
     long = length-map (take 16 (t .pages)) (λ p. p .0) ∙ ap length all ∙ w .pages
 
-    same : (i : ℕ) → i < 16 → getD (listed 16 (t .pages)) i 0 ≡ getD (map (pageAt t) (below 16)) i 0
+    same : (i : ℕ) → i < 16 → getD (numbersOf 16 (t .pages)) i 0 ≡ getD (map (pageAt t) (below 16)) i 0
     same i h =
         ap (λ (l : List Page). getD (map (λ p. p .0) l) i 0) all
         ∙ List·getD-map (λ (p : Page). p .0) (t .pages) i (toPage 0)
@@ -113,7 +114,7 @@ module _ (S end : ℕ) (t : Slots) (w : Whole t) (few : S ≤ 16) (small : end �
     use-passes p l =
         let i = l .1 .0 in
         let f = slot-found S t p i (l .1 .1) in
-        let n : times p (listed 16 (t .pages)) ≡ 1 = rw (rows t w) (times-one (pageAt t) p 0 16 i (omega arith) (omega (arith, f .0)) (f .1) (λ j k m e. other j (omega arith) e (decLt j S))) in
+        let n : times p (numbersOf 16 (t .pages)) ≡ 1 = rw (rows t w) (times-one (pageAt t) p 0 16 i (omega arith) (omega (arith, f .0)) (f .1) (λ j k m e. other j (omega arith) e (decLt j S))) in
         rw (lt-ltb p end (l .0), n)
       where
         other : (j : ℕ) → j < 16 → pageAt t j ≡ p → Dec (j < S) → j ≡ l .1 .0
@@ -137,8 +138,8 @@ module _ (S end : ℕ) (t : Slots) (w : Whole t) (few : S ≤ 16) (small : end �
     use-listed : (p : ℕ) → useKept end t p ≡ true → (p < end) × Once (pageAt t) p 0 16
     unfolding useKept
     use-listed p h =
-        let b = both (ltb p end) (eqb (times p (listed 16 (t .pages))) 1) h in
-        (ltb-true p end (b .0), once (pageAt t) p 0 16 (rw (rows t w) at (eqb-true (times p (listed 16 (t .pages))) 1 (b .1))))
+        let b = both (ltb p end) (eqb (times p (numbersOf 16 (t .pages))) 1) h in
+        (ltb-true p end (b .0), once (pageAt t) p 0 16 (rw (rows t w) at (eqb-true (times p (numbersOf 16 (t .pages))) 1 (b .1))))
 
     use-slot : (p : ℕ) → useKept end t p ≡ true → Listed S end t p
     use-slot p h =

@@ -2,7 +2,7 @@
 -- Assumes nothing.
 use Prim.Native.Nat.{ℕ, suc, _+_, _<_}
 use mathlib.Core.Path.{_≡_, refl, _∙_, sym, ap}
-use mathlib.Core.List.{List, [], _∷_, _++_, map}
+use mathlib.Core.List.{List, [], _∷_, _++_, map, append-assoc}
 use mathlib.Core.Bool.{Bool, true, false}
 use native.Mathlib.Numerals.{add-one}
 use native.Mathlib.Omega.{arith}
@@ -11,9 +11,10 @@ use lib.ListN.{length, take, drop, getD, set, length-set}
 use lib.Seq.{take-suc, drop-cons, set-split, take-set-le, drop-set-lt, getD-set-same}
 use borrow.Author.Tests.{eq-eqb, ne-eqb}
 use Rattle.lists.specs.Bools.{if-then}
+use Rattle.lists.specs.Maps.{map-append}
+use Rattle.units.specs.Pages.{numbersOf}
 use Rattle.units.specs.declared.Page.{Page}
 use Rattle.slots.specs.Table.{toPage, without, times}
-use Rattle.slots.specs.Judged.{listed}
 use Rattle.slots.specs.Order.{times-here, times-next, times-last}
 
 -- the numbers of pages, and pages again
@@ -22,8 +23,7 @@ pages-back [] = refl
 pages-back (p ∷ ps) = ap (λ (l : List Page). p ∷ l) (pages-back ps)
 
 map-last : {A B : Type 0} (f : A → B) (l : List A) (x : A) (r : List B) → map f (l ++ (x ∷ [])) ++ r ≡ map f l ++ (f x ∷ r)
-map-last f [] x r = refl
-map-last {B = B} f (y ∷ ys) x r = ap (λ (l : List B). f y ∷ l) (map-last f ys x r)
+map-last {B = B} f l x r = ap (λ (ys : List B). ys ++ r) (map-append f l (x ∷ [])) ∙ append-assoc (map f l) (f x ∷ []) r
 
 -- x is taken out of a list with one element more at the end
 without-last : (x y : ℕ) (l : List ℕ) → (y ≡ x → ⊥) → without x (l ++ (y ∷ [])) ≡ without x l ++ (y ∷ [])
@@ -47,27 +47,23 @@ without-only x (z ∷ zs) h = go (eqb z x) h (without-only x zs)
     go false h ih = ap (λ (l : List ℕ). z ∷ l) (ih h)
 
 -- the page of a load comes last
-pub set-last : (n p : ℕ) (o : List Page) → n < length o → set o n (toPage p) ≡ map toPage (listed n o ++ (p ∷ [])) ++ drop (n + 1) o
-set-last n p o h = sym (map-last toPage (listed n o) p (drop (n + 1) o) ∙ rw (pages-back (take n o), add-one n, set-split o n (toPage p) h))
+pub set-last : (n p : ℕ) (o : List Page) → n < length o → set o n (toPage p) ≡ map toPage (numbersOf n o ++ (p ∷ [])) ++ drop (n + 1) o
+set-last n p o h = sym (map-last toPage (numbersOf n o) p (drop (n + 1) o) ∙ rw (pages-back (take n o), add-one n, set-split o n (toPage p) h))
 
 -- x is still to be taken out of the first i pages, and carry to be put behind them
 unfoldable pub moving : ℕ → ℕ → Page → List Page → List Page
-moving x i carry o = map toPage (without x (listed i o)) ++ (carry ∷ drop i o)
+moving x i carry o = map toPage (without x (numbersOf i o)) ++ (carry ∷ drop i o)
 
-pub moving-start : (x p i : ℕ) (o : List Page) → map toPage (without x (listed i o) ++ (p ∷ [])) ++ drop i o ≡ moving x i (toPage p) o
+pub moving-start : (x p i : ℕ) (o : List Page) → map toPage (without x (numbersOf i o) ++ (p ∷ [])) ++ drop i o ≡ moving x i (toPage p) o
 unfolding moving
-moving-start x p i o = map-last toPage (without x (listed i o)) p (drop i o)
+moving-start x p i o = map-last toPage (without x (numbersOf i o)) p (drop i o)
 
 module _ (x i j : ℕ) (o : List Page) (e : i ≡ suc j) (h : j < length o) where
-  pub last-of : listed i o ≡ listed j o ++ (getD o j (toPage 0) .0 ∷ [])
-  last-of = rw (e, take-suc o j (toPage 0) h) (more (take j o))
-    where
-      more : (l : List Page) → map (λ p. p .0) (l ++ (getD o j (toPage 0) ∷ [])) ≡ map (λ p. p .0) l ++ (getD o j (toPage 0) .0 ∷ [])
-      more [] = refl
-      more (p ∷ ps) = ap (λ (ns : List ℕ). p .0 ∷ ns) (more ps)
+  pub last-of : numbersOf i o ≡ numbersOf j o ++ (getD o j (toPage 0) .0 ∷ [])
+  last-of = rw (e, take-suc o j (toPage 0) h) (map-append (λ (p : Page). p .0) (take j o) (getD o j (toPage 0) ∷ []))
 
-  times-stop : getD o j (toPage 0) .0 ≡ x → times x (listed i o) ≡ suc (times x (listed j o))
-  times-stop q = rw (last-of, q, times-last) (times-here x (listed j o))
+  times-stop : getD o j (toPage 0) .0 ≡ x → times x (numbersOf i o) ≡ suc (times x (numbersOf j o))
+  times-stop q = rw (last-of, q, times-last) (times-here x (numbersOf j o))
 
   module _ (carry : Page) where
     kept : drop j (set o j carry) ≡ carry ∷ drop i o
@@ -75,19 +71,19 @@ module _ (x i j : ℕ) (o : List Page) (e : i ≡ suc j) (h : j < length o) wher
         drop-cons (set o j carry) j (toPage 0) (rw (length-set o j carry) h)
         ∙ rw (getD-set-same o j carry (toPage 0) h, drop-set-lt (suc j) o j carry (omega arith), e)
 
-    pub moving-stop : getD o j (toPage 0) .0 ≡ x → times x (listed i o) ≡ 1 → moving x i carry o ≡ set o j carry
+    pub moving-stop : getD o j (toPage 0) .0 ≡ x → times x (numbersOf i o) ≡ 1 → moving x i carry o ≡ set o j carry
     unfolding moving
     moving-stop q m =
-        let z : times x (listed j o) ≡ 0 = omega (arith, times-stop q) in
-        rw (last-of, q, without-only x (listed j o) z, pages-back (take j o), e, set-split o j carry h)
+        let z : times x (numbersOf j o) ≡ 0 = omega (arith, times-stop q) in
+        rw (last-of, q, without-only x (numbersOf j o) z, pages-back (take j o), e, set-split o j carry h)
 
     module _ (n : getD o j (toPage 0) .0 ≡ x → ⊥) where
-      pub times-step : times x (listed i o) ≡ times x (listed j (set o j carry))
+      pub times-step : times x (numbersOf i o) ≡ times x (numbersOf j (set o j carry))
       times-step =
           rw (take-set-le j o j carry (omega arith), last-of, times-last)
-          (times-next x (getD o j (toPage 0) .0) (listed j o) n)
+          (times-next x (getD o j (toPage 0) .0) (numbersOf j o) n)
 
       pub moving-step : moving x i carry o ≡ moving x j (getD o j (toPage 0)) (set o j carry)
       unfolding moving
       moving-step =
-          rw (last-of, without-last x (getD o j (toPage 0) .0) (listed j o) n, map-last toPage, take-set-le j o j carry (omega arith), kept)
+          rw (last-of, without-last x (getD o j (toPage 0) .0) (numbersOf j o) n, map-last toPage, take-set-le j o j carry (omega arith), kept)

@@ -2,7 +2,7 @@
 -- Assumes nothing.
 use Prim.Native.Nat.{ℕ, suc, _+_, _-_, _<_, _≤_}
 use mathlib.Core.Path.{_≡_, refl, _∙_, sym, ap}
-use mathlib.Core.List.{List, [], _∷_, map}
+use mathlib.Core.List.{List, [], _∷_}
 use mathlib.Core.Bool.{Bool, true, false, _&&_}
 use mathlib.Core.Option.{Option, some, none}
 use native.Mathlib.Nat.{sub-zero}
@@ -14,23 +14,13 @@ use lib.ListN.{length, take, drop, getD, length-map, drop-of-length-le, List·ge
 use lib.Seq.{drop-cons, getD-take, length-take-le}
 use borrow.Author.Tests.{eq-eqb, ne-eqb, lt-ltb, le-ltb}
 use Rattle.lists.specs.Below.{from}
+use Rattle.lists.specs.Passes.{from-here, from-end}
 use Rattle.lists.specs.Scans.{anyOf, allOf, first}
+use Rattle.units.specs.Pages.{numbersOf}
 use Rattle.units.specs.declared.Page.{Page}
 use Rattle.slots.specs.Table.{toPage, noPage, pageAt, vacant, changedAt, slotOf, changedPage, uses, times, orElse, victimIn, victim}
-use Rattle.slots.specs.Judged.{listed, rowKept}
+use Rattle.slots.specs.Judged.{rowKept}
 use Rattle.slots.specs.declared.Slots.{Slots}
-
--- what owning an array of pages says of its length
-pub length-mapped : {A B : Type 0} (f : A → B) (l : List A) (n : ℕ) → length (map f l) ≡ n → length l ≡ n
-length-mapped f l n e = sym (length-map l f) ∙ e
-
-from-here : (n i : ℕ) → i < n → from i (n - i) ≡ i ∷ from (i + 1) (n - (i + 1))
-unfolding from
-from-here n i h = let e : n - i ≡ suc (n - (i + 1)) = omega arith in rw (e, add-one i)
-
-from-end : (n i : ℕ) → n ≤ i → from i (n - i) ≡ []
-unfolding from
-from-end n i h = let e : n - i ≡ 0 = omega arith in rw e
 
 -- the slot of page p, and whether one with p is changed, from slot i on
 module _ (S : ℕ) (t : Slots) (p : ℕ) where
@@ -78,20 +68,6 @@ module _ (S : ℕ) (t : Slots) (p : ℕ) where
       unfolding changedFrom anyOf pageAt
       changed-other n = rw (from-here S i h, ne-eqb (pageAt t i) p n)
 
--- a test of the numbers below n, from i on
-module _ (t : ℕ → Bool) (n i : ℕ) where
-  pub all-here : i < n → t i ≡ false → allOf t (from i (n - i)) ≡ false
-  unfolding allOf
-  all-here h e = rw (from-here n i h, e)
-
-  pub all-next : i < n → t i ≡ true → allOf t (from i (n - i)) ≡ allOf t (from (i + 1) (n - (i + 1)))
-  unfolding allOf
-  all-next h e = rw (from-here n i h, e)
-
-  pub all-end : n ≤ i → allOf t (from i (n - i)) ≡ true
-  unfolding allOf
-  all-end h = rw (from-end n i h)
-
 -- the test of one row: empty, past the slots, a slot whose page was counted
 module _ (S : ℕ) (t : Slots) (i : ℕ) where
   pub row-empty : getD (t .pages) i (toPage 0) .0 ≡ noPage → getD (t .changed) i 0 ≡ 0 → rowKept S t i ≡ true
@@ -106,44 +82,44 @@ module _ (S : ℕ) (t : Slots) (i : ℕ) where
   unfolding rowKept vacant pageAt
   row-past n h = rw (ne-eqb (pageAt t i) noPage n, le-ltb i S h)
 
-  pub row-counted : (getD (t .pages) i (toPage 0) .0 ≡ noPage → ⊥) → i < S → (k u : ℕ) → k ≡ times (getD (t .pages) i (toPage 0) .0) (listed u (t .order)) → u ≡ t .used → rowKept S t i ≡ eqb k 1
+  pub row-counted : (getD (t .pages) i (toPage 0) .0 ≡ noPage → ⊥) → i < S → (k u : ℕ) → k ≡ times (getD (t .pages) i (toPage 0) .0) (numbersOf u (t .order)) → u ≡ t .used → rowKept S t i ≡ eqb k 1
   unfolding rowKept vacant pageAt uses
   row-counted n h k u e d = rw (ne-eqb (pageAt t i) noPage n, lt-ltb i S h, e, d)
 
 -- the first n pages of an array, from k on
 module _ (l : List Page) (n k : ℕ) (m : n ≤ length l) where
-  long : length (listed n l) ≡ n
+  long : length (numbersOf n l) ≡ n
   long = length-map (take n l) (λ p. p .0) ∙ length-take-le n l m
 
-  listed-next : k < n → drop k (listed n l) ≡ getD l k (toPage 0) .0 ∷ drop (k + 1) (listed n l)
+  listed-next : k < n → drop k (numbersOf n l) ≡ getD l k (toPage 0) .0 ∷ drop (k + 1) (numbersOf n l)
   listed-next h =
       rw (add-one k)
-      (drop-cons (listed n l) k 0 (omega (arith, long))
-      ∙ ap (λ (x : ℕ). x ∷ drop (suc k) (listed n l))
+      (drop-cons (numbersOf n l) k 0 (omega (arith, long))
+      ∙ ap (λ (x : ℕ). x ∷ drop (suc k) (numbersOf n l))
       (List·getD-map (λ (p : Page). p .0) (take n l) k (toPage 0) ∙ ap (λ (p : Page). p .0) (getD-take n l k (toPage 0) h)))
 
-  listed-end : n ≤ k → drop k (listed n l) ≡ []
-  listed-end h = drop-of-length-le (listed n l) {i = k} (omega (arith, long))
+  listed-end : n ≤ k → drop k (numbersOf n l) ≡ []
+  listed-end h = drop-of-length-le (numbersOf n l) {i = k} (omega (arith, long))
 
   -- how often p stands there
   module _ (p : ℕ) where
-    pub times-end : n ≤ k → times p (drop k (listed n l)) ≡ 0
+    pub times-end : n ≤ k → times p (drop k (numbersOf n l)) ≡ 0
     unfolding times
     times-end h = rw (listed-end h)
 
-    pub times-this : k < n → getD l k (toPage 0) .0 ≡ p → times p (drop k (listed n l)) ≡ times p (drop (k + 1) (listed n l)) + 1
+    pub times-this : k < n → getD l k (toPage 0) .0 ≡ p → times p (drop k (numbersOf n l)) ≡ times p (drop (k + 1) (numbersOf n l)) + 1
     unfolding times
-    times-this h e = rw (listed-next h, eq-eqb (getD l k (toPage 0) .0) p e) (sym (add-one (times p (drop (k + 1) (listed n l)))))
+    times-this h e = rw (listed-next h, eq-eqb (getD l k (toPage 0) .0) p e) (sym (add-one (times p (drop (k + 1) (numbersOf n l)))))
 
-    pub times-past : n ≤ k → times p (drop k (listed n l)) ≡ times p (drop (k + 1) (listed n l))
+    pub times-past : n ≤ k → times p (drop k (numbersOf n l)) ≡ times p (drop (k + 1) (numbersOf n l))
     unfolding times
-    times-past h = times-end h ∙ sym (ap (times p) (drop-of-length-le (listed n l) {i = k + 1} (omega (arith, long))))
+    times-past h = times-end h ∙ sym (ap (times p) (drop-of-length-le (numbersOf n l) {i = k + 1} (omega (arith, long))))
 
-    pub times-other : (getD l k (toPage 0) .0 ≡ p → ⊥) → times p (drop k (listed n l)) ≡ times p (drop (k + 1) (listed n l))
+    pub times-other : (getD l k (toPage 0) .0 ≡ p → ⊥) → times p (drop k (numbersOf n l)) ≡ times p (drop (k + 1) (numbersOf n l))
     unfolding times
     times-other e = go (decLt k n)
       where
-        go : Dec (k < n) → times p (drop k (listed n l)) ≡ times p (drop (k + 1) (listed n l))
+        go : Dec (k < n) → times p (drop k (numbersOf n l)) ≡ times p (drop (k + 1) (numbersOf n l))
         go (yes h) = rw (listed-next h, ne-eqb (getD l k (toPage 0) .0) p e)
         go (no h) = times-past (omega (arith, h))
 

@@ -2,17 +2,11 @@
 -- (Counted has the law).
 use Prim.Native.Nat.{ℕ}
 use mathlib.Core.Bool.{Bool, not, _&&_}
-use mathlib.Core.List.{List, map}
 use lib.Dec.{eqb, ltb}
-use lib.ListN.{take}
 use Rattle.lists.specs.Bools.{if-then}
-use Rattle.units.specs.declared.Page.{Page}
+use Rattle.units.specs.Pages.{numbersOf}
 use Rattle.slots.specs.Table.{pageAt, vacant, changedAt, uses, times}
 use Rattle.slots.specs.declared.Slots.{Slots}
-
--- the first n pages of an array
-abbrev pub listed : ℕ → List Page → List ℕ
-listed n l = map (λ p. p .0) (take n l)
 
 -- row i is empty and not changed, or a slot whose page is once in the order of use
 unfoldable pub rowKept : ℕ → Slots → ℕ → Bool
@@ -20,4 +14,4 @@ rowKept S t i = if-then (vacant t i) (not (changedAt t i)) (ltb i S && eqb (time
 
 -- a page in the order of use is below e and in one row
 unfoldable pub useKept : ℕ → Slots → ℕ → Bool
-useKept end t p = ltb p end && eqb (times p (listed 16 (t .pages))) 1
+useKept end t p = ltb p end && eqb (times p (numbersOf 16 (t .pages))) 1

@@ -262,6 +262,20 @@ pub mark-other : (t : Slots) (i j : ℕ) → (j ≡ i → ⊥) → changedAt (ma
 unfolding marked changedAt
 mark-other t i j n = rw (getD-set-other (t .changed) i j 1 0 n)
 
+-- a page that was placed, changed
+pub mark-placed : {t t′ : Slots} {i p : ℕ} {c : Bool} → Placed t t′ i p c → i < 16 → Placed t (marked i t′) i p true
+unfolding marked uses
+mark-placed {t} {t′} {i} q h =
+    record {
+      whole = record { pages = q .whole .pages; changed = length-set (t′ .changed) i 1 ∙ q .whole .changed; order = q .whole .order };
+      used = q .used;
+      order = q .order;
+      page-here = mark-same t′ i .page i ∙ q .page-here;
+      page-other = λ j n. mark-same t′ i .page j ∙ q .page-other j n;
+      changed-here = mark-here t′ i (q .whole) h;
+      changed-other = λ j n. mark-other t′ i j n ∙ q .changed-other j n;
+    }
+
 pub mark-sits : {S end : ℕ} {t : Slots} → Sits S end t → (i : ℕ) → i < S → vacant t i ≡ false → Sits S end (marked i t)
 unfolding marked
 mark-sits {S} {end} {t} s i h v =

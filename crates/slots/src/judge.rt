@@ -8,14 +8,15 @@ ghost use mathlib.Core.Path.{_≡_};
 ghost use Prim.Native.Nat.{_≤_};
 ghost use Rattle.lists.specs.Below.{below};
 ghost use Rattle.lists.specs.Scans.{allOf};
+ghost use Rattle.units.specs.Pages.{numbersOf};
 ghost use Rattle.slots.specs.Table as Table;
 ghost use Rattle.slots.specs.Rules.{slotRules};
-ghost use Rattle.slots.specs.Judged.{listed, rowKept, useKept};
+ghost use Rattle.slots.specs.Judged.{rowKept, useKept};
 
 // How often `page` stands in the first `n` elements.
 fn times(list: [Page; 16], n: usize, page: Page) -> u32
     requires { ⌜ n ≤ 16 ⌝ }
-    ensures { λ r. ⌜ r ≡ Table.times (page .0) (listed n list) ⌝ }
+    ensures { λ r. ⌜ r ≡ Table.times (page .0) (numbersOf n list) ⌝ }
 {
     let mut count: u32 = 0;
     let mut i: usize = 0;

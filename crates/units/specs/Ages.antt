@@ -118,6 +118,11 @@ module _ (wait : ℕ) where
   unfolding reusable
   reusable-late t retired N h k = lt-leb (retired .0 + wait) (N .0) (omega arith)
 
+  -- what changed after t does not leave within `wait` and one of t
+  pub leaves-late : (t : ℕ) (changed N : Tick) → t < changed .0 → N .0 ≤ t + wait + 1 → leaves wait changed false N ≡ false
+  unfolding leaves
+  leaves-late t changed N h k = ne-eqb (changed .0 + wait + 1) (N .0) (λ e. omega arith)
+
   -- what entered after t is not written to the base within `wait` of t
   pub due-late : (t : ℕ) (entered N : Tick) (changedNow : Bool) → t < entered .0 → N .0 ≤ t + wait → due wait entered changedNow N ≡ false
   unfolding due

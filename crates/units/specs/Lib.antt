@@ -1,5 +1,6 @@
 pub mod Ages
 pub mod Bounds
+pub mod Pages
 pub mod Refusals
 pub mod Sizes
 pub mod Tests

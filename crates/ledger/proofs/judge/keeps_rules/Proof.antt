@@ -1,4 +1,4 @@
-use mathlib.Core.Path.{_∙_, sym, ap}
+use mathlib.Core.Path.{refl, _∙_, sym, ap}
 use native.Mathlib.Omega.{arith}
 use borrow.Author.Tests.{not-true, not-false}
 use Rattle.units.specs.Bounds.{limits-within}
@@ -47,14 +47,14 @@ places-requires c κs = search needs
 held-places-requires : tie.Need-held-places-requires
 unfolding ledgerLength placesAt
 held-places-requires c κs =
-    let b = c .before .before .before .before .before .before .before .before in
-    (omega (arith, b .pre .1, b .pre .2), c .places .ensures .1)
+    let b = c .before .before .before .before .before .before .before .before .before in
+    (omega (arith, b .pre .1, b .pre .2), c .before .places .ensures .1, refl)
 
 returns-3 : tie.Need-returns-3
 returns-3 c =
     let a = c .before .before .before .before .before .before .before .before .before .before .before .args in
     let seated = sits (a .settings .slots) (a .seats) in
-    judge-places (a .settings) (a .end) (a .closed) seated (a .n) (a .s .now) (sym (c .before .before .held-places .ensures .0 ∙ rw (c .before .before .before .places .ensures .0)) ∙ not-true _ (c .if3 .taken))
+    judge-places (a .settings) (a .end) (a .closed) seated (a .n) (a .s .now) (sym (c .before .held-places .ensures .0 ∙ rw (c .before .before .before .places .ensures .0)) ∙ not-true _ (c .if3 .taken))
 
 places-fit-requires : tie.Need-places-fit-requires
 places-fit-requires c κs = search needs
@@ -63,7 +63,7 @@ returns-4 : tie.Need-returns-4
 returns-4 c =
     let a = c .before .before .before .before .before .before .before .before .before .before .before .before .before .args in
     let seated = sits (a .settings .slots) (a .seats) in
-    let h = c .before .before .before .before .held-places in
+    let h = c .before .before .before .held-places in
     let m = c .before .before .before .before .before .places .ensures in
     let p = not-false _ (c .before .before .if3 .left) in
     judge-all (a .settings) (a .end) (a .closed) seated (a .n) (a .s .now) (ap (pagesFit (a .end)) (sym (entries-indexed (a .n) (a .s .now))) ∙ sym (c .before .before .before .before .before .before .before .before .before .before .before .ascending-below .ensures) ∙ not-false _ (c .before .before .before .before .before .before .before .before .before .before .if1 .left)) ((sym (c .before .before .before .before .before .before .before .ticks-fit .ensures ∙ rw (c .before .before .before .before .before .before .before .before .before .wait .ensures, c .before .before .before .before .before .before .before .before .wide .ensures .0))) ∙ not-false _ (c .before .before .before .before .before .before .if2 .left))

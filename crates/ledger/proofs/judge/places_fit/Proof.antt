@@ -5,17 +5,18 @@ use native.Mathlib.Omega.{arith}
 use borrow.Author.Needs.{needs}
 use lib.ListN.{length}
 use Rattle.lists.specs.Below.{below}
+use Rattle.lists.specs.Passes.{allFrom, all-start, all-turn, all-stop, all-end}
 use Rattle.lists.specs.Scans.{allOf}
 use Rattle.units.specs.Sizes.{placeRow, places, ledgerLength}
-use Rattle.ledger.proofs.Judging.{rowFits, places-judged, allFrom, all-start, all-turn, all-stop, all-end, place-free, place-late, place-held, place-fits}
+use Rattle.ledger.proofs.Judging.{rowFits, places-judged, place-free, place-late, place-held, place-fits}
 use Rattle.ledger.proofs.judge.places_fit.Statement.{statement}
 use Rattle.ledger.proofs.judge.places_fit.Tie as tie
 
 abbrev Inv-loop : tie.InvT-loop
-Inv-loop s closed held at m q₀ q = (q ≤ m) × (m ≤ 272) × (at + m * placeRow ≤ length s) × (allOf (rowFits at s closed held) (below m) ≡ allFrom (rowFits at s closed held) m q)
+Inv-loop s held closed at m q₀ q = (q ≤ m) × (m ≤ 272) × (at + m * placeRow ≤ length s) × (allOf (rowFits at s closed held) (below m) ≡ allFrom (rowFits at s closed held) m q)
 
 abbrev μ-loop : tie.MeasureT-loop
-μ-loop s closed held at m q₀ q = m - q
+μ-loop s held closed at m q₀ q = m - q
 
 places-at-requires : tie.Need-places-at-requires Inv-loop μ-loop
 places-at-requires c κs = search needs
@@ -41,25 +42,25 @@ returns c =
     let p = c .before .before .before .before .before .before .before .before .places-at in
     let m = c .before .before .before .before .before .before .before .places in
     let l = c .before .before .before .before .before .before .loop in
-    let j = places-judged (a .settings) (a .closed) (a .s .now) (a .t3) (p .result) (m .result) (p .ensures .0) (m .ensures .0) in
-    let t = rowFits (p .result) (a .s .now) (a .closed) (a .t3) in
+    let j = places-judged (a .settings) (a .closed) (a .s .now) (a .held .now) (p .result) (m .result) (p .ensures .0) (m .ensures .0) in
+    let t = rowFits (p .result) (a .s .now) (a .closed) (a .held .now) in
     let n = c .before .before .before .before .number .ensures .0 in
     let n2 = c .before .before .number2 .ensures .0 in
-    sym (sym j ∙ l .inv .3 ∙ all-stop t (m .result) (l .q) (omega arith) (place-late (p .result) (a .s .now) (a .closed) (a .t3) (l .q) (λ z. c .before .before .before .if1 .taken (n ∙ z)) (omega arith)))
+    sym (sym j ∙ l .inv .3 ∙ all-stop t (m .result) (l .q) (omega arith) (place-late (p .result) (a .s .now) (a .closed) (a .held .now) (l .q) (λ z. c .before .before .before .if1 .taken (n ∙ z)) (omega arith)))
 
-array-read-if3 : tie.Need-array-read-if3 Inv-loop μ-loop
-array-read-if3 c = search needs
+element-copy-out-if3 : tie.Need-element-copy-out-if3 Inv-loop μ-loop
+element-copy-out-if3 c = search needs
 
 returns-2 : tie.Need-returns-2 Inv-loop μ-loop
 returns-2 c =
-    let a = c .before .before .before .before .before .before .before .before .before .before .before .args in
-    let p = c .before .before .before .before .before .before .before .before .before .places-at in
-    let m = c .before .before .before .before .before .before .before .before .places in
-    let l = c .before .before .before .before .before .before .before .loop in
-    let j = places-judged (a .settings) (a .closed) (a .s .now) (a .t3) (p .result) (m .result) (p .ensures .0) (m .ensures .0) in
-    let t = rowFits (p .result) (a .s .now) (a .closed) (a .t3) in
-    let n = c .before .before .before .before .before .number .ensures .0 in
-    sym (sym j ∙ l .inv .3 ∙ all-stop t (m .result) (l .q) (omega arith) (place-held (p .result) (a .s .now) (a .closed) (a .t3) (l .q) (λ z. c .before .before .before .before .if1 .taken (n ∙ z)) (c .if3 .taken)))
+    let a = c .before .before .before .before .before .before .before .before .before .before .before .before .args in
+    let p = c .before .before .before .before .before .before .before .before .before .before .places-at in
+    let m = c .before .before .before .before .before .before .before .before .before .places in
+    let l = c .before .before .before .before .before .before .before .before .loop in
+    let j = places-judged (a .settings) (a .closed) (a .s .now) (a .held .now) (p .result) (m .result) (p .ensures .0) (m .ensures .0) in
+    let t = rowFits (p .result) (a .s .now) (a .closed) (a .held .now) in
+    let n = c .before .before .before .before .before .before .number .ensures .0 in
+    sym (sym j ∙ l .inv .3 ∙ all-stop t (m .result) (l .q) (omega arith) (place-held (p .result) (a .s .now) (a .closed) (a .held .now) (l .q) (λ z. c .before .before .before .before .before .if1 .taken (n ∙ z)) (c .if3 .taken)))
 
 add-q : tie.Need-add-q Inv-loop μ-loop
 add-q c = search needs
@@ -73,7 +74,7 @@ loop-again c =
     let p = c .before .before .before .before .before .places-at in
     let m = c .before .before .before .before .places in
     let l = c .before .before .before .loop in
-    let t = rowFits (p .result) (a .s .now) (a .closed) (a .t3) in
+    let t = rowFits (p .result) (a .s .now) (a .closed) (a .held .now) in
     let n = c .before .number .ensures .0 in (
       search needs,
       l .inv .1,
@@ -81,8 +82,8 @@ loop-again c =
       l .inv .3
           ∙ all-turn t (m .result) (l .q) (omega arith)
           (⊎-elim
-          (λ u. place-fits (p .result) (a .s .now) (a .closed) (a .t3) (l .q) (λ z. u .0 .taken (n ∙ z)) (omega (arith, u .1 .ensures .0, u .3 .left)) (u .4 .left))
-          (λ u. place-free (p .result) (a .s .now) (a .closed) (a .t3) (l .q) (sym n ∙ u .left))
+          (λ u. place-fits (p .result) (a .s .now) (a .closed) (a .held .now) (l .q) (λ z. u .0 .taken (n ∙ z)) (omega (arith, u .1 .ensures .0, u .3 .left)) (u .5 .left))
+          (λ u. place-free (p .result) (a .s .now) (a .closed) (a .held .now) (l .q) (sym n ∙ u .left))
           (c .if1 .came)),
     )
 
@@ -92,8 +93,8 @@ returns-3 c =
     let p = c .before .before .before .places-at in
     let m = c .before .before .places in
     let l = c .before .loop in
-    let j = places-judged (a .settings) (a .closed) (a .s .now) (a .t3) (p .result) (m .result) (p .ensures .0) (m .ensures .0) in
-    let t = rowFits (p .result) (a .s .now) (a .closed) (a .t3) in
+    let j = places-judged (a .settings) (a .closed) (a .s .now) (a .held .now) (p .result) (m .result) (p .ensures .0) (m .ensures .0) in
+    let t = rowFits (p .result) (a .s .now) (a .closed) (a .held .now) in
     sym (sym j ∙ l .inv .3 ∙ all-end t (m .result) (l .q) (omega arith))
 
 pub places-fit-spec : {M : Type 1} → statement M
@@ -108,7 +109,7 @@ places-fit-spec =
     number-requires
     number-requires-2
     returns
-    array-read-if3
+    element-copy-out-if3
     returns-2
     add-q
     loop-less

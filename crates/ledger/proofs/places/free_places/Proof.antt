@@ -30,20 +30,15 @@ places-requires c κs = search needs
 
 held-places-requires : tie.Need-held-places-requires Inv-loop μ-loop
 unfolding ledgerLength placesAt
-held-places-requires c κs = omega (arith, c .before .before .pre .1, c .before .before .pre .2)
+held-places-requires c κs =
+    let b = c .before .before .before in
+    (omega (arith, b .pre .1, b .pre .2), c .before .places .ensures .1, refl)
 
 loop-holds : tie.Need-loop-holds Inv-loop μ-loop
 loop-holds c =
-    let a = c .before .before .before .before .args in
-    let h = c .before .held-places in (
-      search needs,
-      search needs,
-      search needs,
-      c .before .before .places .ensures .0,
-      refl,
-      h .ensures .1 (h .ensures .0 ∙ rw (c .before .before .places .ensures .0) (c .before .before .before .before .pre .3)),
-      found-none _ _ _ _,
-    )
+    let h = c .held-places in
+    let m = c .before .before .places .ensures in
+    (search needs, search needs, search needs, m .0, refl, h .ensures .1 (h .ensures .0 ∙ rw (m .0) (c .before .before .before .before .pre .3)), found-none _ _ _ _)
 
 array-read-if2 : tie.Need-array-read-if2 Inv-loop μ-loop
 array-read-if2 c = search needs
@@ -51,8 +46,8 @@ array-read-if2 c = search needs
 rested-requires : tie.Need-rested-requires Inv-loop μ-loop
 rested-requires c κs = search needs
 
-cast-t18 : tie.Need-cast-t18 Inv-loop μ-loop
-cast-t18 c = search needs
+cast-t19 : tie.Need-cast-t19 Inv-loop μ-loop
+cast-t19 c = search needs
 
 mul-places : tie.Need-mul-places Inv-loop μ-loop
 mul-places c = search needs
@@ -77,7 +72,7 @@ loop-again c =
     let f = isReusable (a .settings) (wait (a .settings)) (a .tick) (entriesIn (a .n) (a .s .now)) (a .s .now) in
     let es = entriesIn (a .n) (a .s .now) in
     let w = wait (a .settings) in
-    let t = c .before .before .before .before .before .held-places .result .places in
+    let t = c .before .before .before .before .held-places .last .1 .1 .1 .0 in
     ⊎-elim
     (λ u. rw (u .3, u .4) (
       omega arith,
@@ -124,7 +119,7 @@ free-places-spec =
     loop-holds
     array-read-if2
     rested-requires
-    cast-t18
+    cast-t19
     mul-places
     array-set-from-places
     add-count

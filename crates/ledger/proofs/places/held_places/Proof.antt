@@ -1,7 +1,7 @@
 use Prim.Native.Nat.{_-_, _≤_}
 use mathlib.Core.Path.{_≡_, _∙_, sym, ap}
-use mathlib.Core.Bool.{false≢true}
-use mathlib.Core.List.{map}
+use mathlib.Core.Bool.{Bool, false≢true}
+use mathlib.Core.List.{List, map}
 use native.Mathlib.Omega.{arith}
 use borrow.Author.Needs.{needs}
 use lib.ListN.{take, drop}
@@ -26,7 +26,9 @@ loop-holds : tie.Need-loop-holds Inv-loop μ-loop
 unfolding noneMet
 loop-holds c =
     let a = c .before .args in
-    (search needs, ap (placesFit (a .most)) (sym (entries-indexed (a .n) (a .s .now))) ∙ fresh-first (a .most) (entriesAt 0 entryRow (a .n) (a .s .now)) (search needs), held-none)
+    let empty = c .before .pre .2 in
+    let es = entriesAt 0 entryRow (a .n) (a .s .now) in
+    (search needs, ap (placesFit (a .most)) (sym (entries-indexed (a .n) (a .s .now))) ∙ fresh-first (a .most) es (search needs) ∙ ap (λ (l : List Bool). fresh (a .most) l es) (sym empty), empty ∙ held-none)
 
 number-requires : tie.Need-number-requires Inv-loop μ-loop
 number-requires c κs = search needs
@@ -40,18 +42,18 @@ returns c =
     let l = c .before .before .before .before .loop in
     (sym (l .inv .1 ∙ fresh-far 0 entryRow (a .n) (a .s .now) (l .i) (omega arith) (a .most) (l .held) (omega arith)), λ z. absurd (false≢true z))
 
-array-read-if2 : tie.Need-array-read-if2 Inv-loop μ-loop
-array-read-if2 c = search needs
+element-copy-out-if2 : tie.Need-element-copy-out-if2 Inv-loop μ-loop
+element-copy-out-if2 c = search needs
 
 returns-2 : tie.Need-returns-2 Inv-loop μ-loop
 returns-2 c =
-    let a = c .before .before .before .before .before .before .before .args in
-    let l = c .before .before .before .before .before .loop in
-    let e : c .before .before .wide .result ≡ column 1 (row 0 entryRow (l .i) (a .s .now)) = omega arith in
+    let a = c .before .before .before .before .before .before .before .before .args in
+    let l = c .before .before .before .before .before .before .loop in
+    let e : c .before .before .before .wide .result ≡ column 1 (row 0 entryRow (l .i) (a .s .now)) = omega arith in
     (sym (l .inv .1 ∙ fresh-met 0 entryRow (a .n) (a .s .now) (l .i) (omega arith) (a .most) (l .held) (rw (← e) (c .if2 .taken))), λ z. absurd (false≢true z))
 
-array-write-held : tie.Need-array-write-held Inv-loop μ-loop
-array-write-held c = search needs
+element-write-held : tie.Need-element-write-held Inv-loop μ-loop
+element-write-held c = search needs
 
 add-i : tie.Need-add-i Inv-loop μ-loop
 add-i c = search needs
@@ -61,12 +63,12 @@ loop-less c = search needs
 
 loop-again : tie.Need-loop-again Inv-loop μ-loop
 loop-again c =
-    let a = c .before .before .before .before .before .before .before .args in
-    let l = c .before .before .before .before .before .loop in
-    let e : c .before .before .wide .result ≡ column 1 (row 0 entryRow (l .i) (a .s .now)) = omega arith in (
+    let a = c .before .before .before .before .before .before .before .before .args in
+    let l = c .before .before .before .before .before .before .loop in
+    let e : c .before .before .before .wide .result ≡ column 1 (row 0 entryRow (l .i) (a .s .now)) = omega arith in (
       search needs,
       rw e (l .inv .1 ∙ fresh-next 0 entryRow (a .n) (a .s .now) (l .i) (omega arith) (a .most) (l .held) (omega arith) (rw (← e) (c .if2 .left))),
-      held-next (a .n) (a .s .now) (l .i) (omega arith) (l .held) (l .inv .2) (c .before .before .wide .result) (e ∙ place-column (row 0 entryRow (l .i) (a .s .now))) (omega arith),
+      held-next (a .n) (a .s .now) (l .i) (omega arith) (l .held) (l .inv .2) (c .before .before .before .wide .result) (e ∙ place-column (row 0 entryRow (l .i) (a .s .now))) (omega arith),
     )
 
 returns-3 : tie.Need-returns-3 Inv-loop μ-loop
@@ -87,9 +89,9 @@ held-places-spec =
     number-requires
     wide-requires
     returns
-    array-read-if2
+    element-copy-out-if2
     returns-2
-    array-write-held
+    element-write-held
     add-i
     loop-less
     loop-again

@@ -27,8 +27,8 @@ loop-holds : tie.Need-loop-holds Inv-loop μ-loop
 unfolding picked
 loop-holds c = (search needs, held-none)
 
-array-read-if1 : tie.Need-array-read-if1 Inv-loop μ-loop
-array-read-if1 c = search needs
+element-copy-out-if1 : tie.Need-element-copy-out-if1 Inv-loop μ-loop
+element-copy-out-if1 c = search needs
 
 number-requires : tie.Need-number-requires Inv-loop μ-loop
 number-requires c κs = search needs
@@ -38,10 +38,10 @@ wide-requires c κs = search needs
 
 array-write-held : tie.Need-array-write-held Inv-loop μ-loop
 array-write-held c =
-    let a = c .before .before .before .before .before .before .args in
-    let l = c .before .before .before .before .loop in
+    let a = c .before .before .before .before .before .before .before .args in
+    let l = c .before .before .before .before .before .loop in
     let e : c .wide .result ≡ placeOf (entryOf (row 0 entryRow (l .i) (a .s .now))) = c .wide .ensures .0 ∙ c .before .number .ensures .0 ∙ place-column (row 0 entryRow (l .i) (a .s .now)) in
-    omega (arith, every-row (a .n) (a .s .now) (l .i) (omega arith) (c .before .before .before .before .before .before .pre .2))
+    omega (arith, every-row (a .n) (a .s .now) (l .i) (omega arith) (c .before .before .before .before .before .before .before .pre .2))
 
 add-i : tie.Need-add-i Inv-loop μ-loop
 add-i c = search needs
@@ -51,17 +51,17 @@ loop-less c = search needs
 
 loop-again : tie.Need-loop-again Inv-loop μ-loop
 loop-again c =
-    let a = c .before .before .before .before .args in
-    let l = c .before .before .loop in
+    let a = c .before .before .before .before .before .args in
+    let l = c .before .before .before .loop in
     let h : l .i < a .n = omega arith in (
       search needs,
       ⊎-elim
           (λ u.
           let e : u .2 .result ≡ placeOf (entryOf (row 0 entryRow (l .i) (a .s .now))) = u .2 .ensures .0 ∙ u .1 .ensures .0 ∙ place-column (row 0 entryRow (l .i) (a .s .now)) in
           rw (u .3)
-          (held-marked (a .n) (a .s .now) (l .i) h (a .t3) (l .held) (l .inv .1) (u .0 .taken) (u .2 .result) e
-          (omega (arith, every-row (a .n) (a .s .now) (l .i) h (c .before .before .before .before .pre .2)))))
-          (λ u. rw (u .1) (held-unmarked (a .n) (a .s .now) (l .i) h (a .t3) (l .held) (l .inv .1) (u .0 .left)))
+          (held-marked (a .n) (a .s .now) (l .i) h (a .marked .now) (l .held) (l .inv .1) (u .0 .taken) (u .2 .result) e
+          (omega (arith, every-row (a .n) (a .s .now) (l .i) h (c .before .before .before .before .before .pre .2)))))
+          (λ u. rw (u .1) (held-unmarked (a .n) (a .s .now) (l .i) h (a .marked .now) (l .held) (l .inv .1) (u .0 .left)))
           (c .if1 .came),
     )
 
@@ -69,7 +69,7 @@ returns : tie.Need-returns Inv-loop μ-loop
 returns c =
     let a = c .before .before .before .args in
     let l = c .before .loop in
-    l .inv .1 ∙ ap (λ (es : List Entry). heldBy (picked (a .t3) es)) (entries-whole (a .n) (a .s .now) (l .i) (omega arith))
+    l .inv .1 ∙ ap (λ (es : List Entry). heldBy (picked (a .marked .now) es)) (entries-whole (a .n) (a .s .now) (l .i) (omega arith))
 
 pub places-of-spec : {M : Type 1} → statement M
 places-of-spec =
@@ -78,7 +78,7 @@ places-of-spec =
     Inv-loop
     μ-loop
     loop-holds
-    array-read-if1
+    element-copy-out-if1
     number-requires
     wide-requires
     array-write-held

@@ -18,7 +18,7 @@ abbrev μ-loop : tie.MeasureT-loop
 μ-loop s n wait tick old₀ i₀ old i = n - i
 
 loop-holds : tie.Need-loop-holds Inv-loop μ-loop
-loop-holds c = (search needs, refl, refl)
+loop-holds c = (search needs, c .before .pre .2, refl)
 
 entry-at-requires : tie.Need-entry-at-requires Inv-loop μ-loop
 entry-at-requires c κs = search needs
@@ -26,8 +26,8 @@ entry-at-requires c κs = search needs
 leaves-requires : tie.Need-leaves-requires Inv-loop μ-loop
 leaves-requires c κs = search needs
 
-array-write-old : tie.Need-array-write-old Inv-loop μ-loop
-array-write-old c = search needs
+element-write-old : tie.Need-element-write-old Inv-loop μ-loop
+element-write-old c = search needs
 
 add-i : tie.Need-add-i Inv-loop μ-loop
 add-i c = search needs
@@ -62,7 +62,7 @@ old-rows-spec =
     loop-holds
     entry-at-requires
     leaves-requires
-    array-write-old
+    element-write-old
     add-i
     loop-less
     loop-again

@@ -1,14 +1,15 @@
 use Prim.Native.Nat.{_≤_, _<_, _+_, _*_}
-use mathlib.Core.Path.{_∙_}
+use mathlib.Core.Path.{_≡_}
+use mathlib.Core.Option.{none}
 use native.Mathlib.Omega.{arith}
 use lib.ListN.{length}
 use borrow.Author.Tests.{not-true, not-false}
-use Rattle.slots.proofs.Turns.{length-mapped}
+use Rattle.lists.specs.Maps.{length-mapped}
 use Rattle.slots.specs.Sits.{Whole}
 use Rattle.recorder.specs.Outcome.{lent}
-use Rattle.recorder.specs.World.{World, pageSize}
-use Rattle.recorder.proofs.Accepted.{Growth, growth, growth-small, growth-end, growth-kinds, growth-base, growth-sixteen, growth-slot-small, growth-buffer}
-use Rattle.recorder.proofs.Bringing.{rules-alone}
+use Rattle.recorder.specs.World.{World, pageSize, slotFor}
+use Rattle.recorder.proofs.Accepted.{Growth, growth, growth-small, growth-end, growth-kinds, growth-base, growth-asks, slot-sixteen, slot-small, slot-long}
+use Rattle.recorder.proofs.Bringing.{end-absent}
 use Rattle.recorder.proofs.Replied.{grow-refused, grow-raw, grow-nowhere, grow-seated}
 use borrow.Author.Needs.{needs}
 use Rattle.recorder.proofs.calls.grow.Statement.{statement}
@@ -24,21 +25,25 @@ whole s = record { pages = search (needs, length-mapped); changed = search needs
 accepted : (c : tie.Else1) → Growth (world (c .before .before .before .before .before .before .before .before .before .before)) (c .before .before .before .before .before .before .before .before .before .before .args .kind)
 accepted c = growth (world (c .before .before .before .before .before .before .before .before .before .before)) _ (c .before .grows .result) (c .before .grows .ensures) (c .if1 .left)
 
+-- the page that is added is in no slot
+absent : (c : tie.Else1) → slotFor (world (c .before .before .before .before .before .before .before .before .before .before)) (c .before .before .before .before .before .before .before .before .before .before .args .state .end) ≡ none
+absent c = end-absent (world (c .before .before .before .before .before .before .before .before .before .before)) (accepted c .stands .ruled) (whole (c .before .before .before .before .before .before .before .before .before .before))
+
 -- the page has a slot
-slot-low : (c : tie.Else3) → c .before .before .seat-for .result .slot < 16
+slot-low : (c : tie.Else3) → c .before .before .slot-for .result .slot < 16
 slot-low c =
-    let b = c .before .before .seat-for in
-    growth-sixteen (world (c .before .before .before .before .before .before .before .before .before .before .before .before .before .before .before .before)) _ (accepted (c .before .before .before .before .before .before)) (whole (c .before .before .before .before .before .before .before .before .before .before .before .before .before .before .before .before)) (b .result) (b .ensures) (not-false _ (c .if3 .left))
+    let b = c .before .before .slot-for in
+    slot-sixteen (world (c .before .before .before .before .before .before .before .before .before .before .before .before .before .before .before .before)) (accepted (c .before .before .before .before .before .before) .stands) (whole (c .before .before .before .before .before .before .before .before .before .before .before .before .before .before .before .before)) _ (omega arith) (b .result) (b .ensures) (not-false _ (c .if3 .left))
 
-slot-fits : (c : tie.Else3) → c .before .before .seat-for .result .slot * pageSize (world (c .before .before .before .before .before .before .before .before .before .before .before .before .before .before .before .before)) ≤ 268431360
+slot-fits : (c : tie.Else3) → c .before .before .slot-for .result .slot * pageSize (world (c .before .before .before .before .before .before .before .before .before .before .before .before .before .before .before .before)) ≤ 268431360
 slot-fits c =
-    let b = c .before .before .seat-for in
-    growth-slot-small (world (c .before .before .before .before .before .before .before .before .before .before .before .before .before .before .before .before)) _ (accepted (c .before .before .before .before .before .before)) (whole (c .before .before .before .before .before .before .before .before .before .before .before .before .before .before .before .before)) (b .result) (b .ensures) (not-false _ (c .if3 .left))
+    let b = c .before .before .slot-for in
+    slot-small (world (c .before .before .before .before .before .before .before .before .before .before .before .before .before .before .before .before)) (accepted (c .before .before .before .before .before .before) .stands) (whole (c .before .before .before .before .before .before .before .before .before .before .before .before .before .before .before .before)) _ (omega arith) (b .result) (b .ensures) (not-false _ (c .if3 .left))
 
-in-buffer : (c : tie.Else3) → c .before .before .seat-for .result .slot * pageSize (world (c .before .before .before .before .before .before .before .before .before .before .before .before .before .before .before .before)) + pageSize (world (c .before .before .before .before .before .before .before .before .before .before .before .before .before .before .before .before)) ≤ length (c .before .before .before .before .before .before .before .before .before .before .before .before .before .before .before .before .args .buffer .now)
+in-buffer : (c : tie.Else3) → c .before .before .slot-for .result .slot * pageSize (world (c .before .before .before .before .before .before .before .before .before .before .before .before .before .before .before .before)) + pageSize (world (c .before .before .before .before .before .before .before .before .before .before .before .before .before .before .before .before)) ≤ length (c .before .before .before .before .before .before .before .before .before .before .before .before .before .before .before .before .args .buffer .now)
 in-buffer c =
-    let b = c .before .before .seat-for in
-    growth-buffer (world (c .before .before .before .before .before .before .before .before .before .before .before .before .before .before .before .before)) _ (accepted (c .before .before .before .before .before .before)) (whole (c .before .before .before .before .before .before .before .before .before .before .before .before .before .before .before .before)) (b .result) (b .ensures) (not-false _ (c .if3 .left))
+    let b = c .before .before .slot-for in
+    slot-long (world (c .before .before .before .before .before .before .before .before .before .before .before .before .before .before .before .before)) (accepted (c .before .before .before .before .before .before) .stands) (whole (c .before .before .before .before .before .before .before .before .before .before .before .before .before .before .before .before)) _ (omega arith) (b .result) (b .ensures) (not-false _ (c .if3 .left))
 
 grows-requires : tie.Need-grows-requires
 grows-requires c κs = search needs
@@ -99,8 +104,8 @@ returns-2 c =
     (grow-raw (world s) (s .args .kind) (accepted a) (c .before .grown .result) (c .before .grown .ensures) (t .if2 .taken)
     (c .before .before .before .before .clear .last .0) (rw (t .before .wide2 .ensures .0, t .before .before .wide .ensures .0) at (c .before .before .before .before .clear .ensures)))
 
-seat-for-requires : tie.Need-seat-for-requires
-seat-for-requires c κs = rules-alone (world (c .before .before .before .before .before .before .before .before .before .before .before .before .before)) ∙ accepted (c .before .before .before) .stands .ruled
+slot-for-requires : tie.Need-slot-for-requires
+slot-for-requires c κs = growth-asks _ _ (accepted (c .before .before .before))
 
 refused-requires-2 : tie.Need-refused-requires-2
 refused-requires-2 c κs = search needs
@@ -116,9 +121,9 @@ same-length-9 c = search needs
 
 returns-3 : tie.Need-returns-3
 returns-3 c =
-    let b = c .before .before .before .seat-for in
+    let b = c .before .before .before .slot-for in
     rw (c .refused2 .ensures)
-    (grow-nowhere (world (c .before .before .before .before .before .before .before .before .before .before .before .before .before .before .before .before .before)) _ (accepted (c .before .before .before .before .before .before .before)) (c .before .before .before .before .if2 .left) (b .result) (b .ensures) (not-true _ (c .before .if3 .taken)))
+    (grow-nowhere (world (c .before .before .before .before .before .before .before .before .before .before .before .before .before .before .before .before .before)) _ (accepted (c .before .before .before .before .before .before .before)) (c .before .before .before .before .if2 .left) (absent (c .before .before .before .before .before .before .before)) (b .result) (b .ensures) (not-true _ (c .before .if3 .taken)))
 
 mul-clear-2 : tie.Need-mul-clear-2
 mul-clear-2 c = rw (c .before .before .before .before .before .before .before .wide .ensures .0) (omega (arith, slot-fits (c .before .before)))
@@ -153,12 +158,12 @@ same-length-12 c = search needs
 returns-4 : tie.Need-returns-4
 returns-4 c =
     let f = c .before .before .before .before .before .before .before .before .before .before .before .before .before .before in
-    let b = f .before .before .seat-for in
+    let b = f .before .before .slot-for in
     let t = f .before .before .before in
     let a = t .before .before .before in
     let s = a .before .before .before .before .before .before .before .before .before .before in
     rw (c .accepted2 .ensures, t .before .wide2 .ensures .0)
-    (grow-seated (world s) (s .args .kind) (accepted a) (t .if2 .left) (b .result) (b .ensures) (not-false _ (f .if3 .left))
+    (grow-seated (world s) (s .args .kind) (accepted a) (t .if2 .left) (absent a) (b .result) (b .ensures) (not-false _ (f .if3 .left))
     (c .before .before .before .before .before .mark .result) (c .before .before .before .before .before .mark .ensures) (c .before .before .before .before .eviction .result) (c .before .before .before .before .eviction .ensures) (c .before .before .before .before .before .before .grown2 .result) (c .before .before .before .before .before .before .grown2 .ensures)
     (c .before .before .before .before .before .before .before .before .before .before .before .clear2 .last .0) (rw (t .before .before .wide .ensures .0) at (c .before .before .before .before .before .before .before .before .before .before .before .clear2 .ensures)))
 
@@ -183,7 +188,7 @@ grow-spec =
     same-length-5
     same-length-6
     returns-2
-    seat-for-requires
+    slot-for-requires
     refused-requires-2
     same-length-7
     same-length-8

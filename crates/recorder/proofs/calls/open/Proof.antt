@@ -37,13 +37,13 @@ returns c =
     (c .before .before .before .opens .result) (c .before .before .before .opens .ensures) (c .before .before .if1 .taken) (c .before .zero .result) (c .before .zero .ensures))
 
 ledger-length-requires : tie.Need-ledger-length-requires
-ledger-length-requires c κs = accepted (c .before) .limited
+ledger-length-requires c κs = accepted (c .before) .asked .limited
 
 clear-requires : tie.Need-clear-requires
-clear-requires c κs = omega (arith, c .ledger-length .ensures .0, accepted (c .before .before) .ledger-long)
+clear-requires c κs = omega (arith, c .ledger-length .ensures .0, accepted (c .before .before) .asked .ledger-long)
 
 write-empty-requires : tie.Need-write-empty-requires
-write-empty-requires c κs = (accepted (c .before .before .before .before .before .before) .limited, accepted (c .before .before .before .before .before .before) .index-long)
+write-empty-requires c κs = (accepted (c .before .before .before .before .before .before) .asked .limited, accepted (c .before .before .before .before .before .before) .index-long)
 
 first-requires : tie.Need-first-requires
 first-requires c κs = search needs

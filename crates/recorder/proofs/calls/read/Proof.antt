@@ -1,11 +1,13 @@
 use Prim.Native.Nat.{_≤_, _+_, _*_}
+use mathlib.Core.Path.{_∙_, ap}
 use native.Mathlib.Omega.{arith}
 use lib.ListN.{length}
-use Rattle.slots.proofs.Turns.{length-mapped}
+use borrow.Author.Tests.{not-true, not-false}
+use Rattle.lists.specs.Maps.{length-mapped}
 use Rattle.slots.specs.Sits.{Whole}
 use Rattle.recorder.specs.Outcome.{lent}
 use Rattle.recorder.specs.World.{World, pageSize}
-use Rattle.recorder.proofs.Accepted.{Access, access, access-usable, access-small, access-kinds, access-base, slot-small, access-buffer}
+use Rattle.recorder.proofs.Accepted.{slot-small, slot-long, brought-length, Access, access, access-asks, access-small, access-kinds, access-page, access-base, access-buffer}
 use Rattle.recorder.proofs.Replied.{read-refused, read-raw, read-found, read-nowhere}
 use borrow.Author.Needs.{needs}
 use Rattle.recorder.proofs.calls.read.Statement.{statement}
@@ -21,17 +23,24 @@ whole s = record { pages = search (needs, length-mapped); changed = search needs
 accepted : (c : tie.Else1) → Access (world (c .before .before .before .before .before .before .before .before .before)) (c .before .before .before .before .before .before .before .before .before .args .page .0) (c .before .before .before .before .before .before .before .before .before .args .offset) (length (c .before .before .before .before .before .before .before .before .before .args .into .now))
 accepted c = access (world (c .before .before .before .before .before .before .before .before .before)) _ _ _ (c .before .accesses .result) (c .before .accesses .ensures) (c .if1 .left)
 
--- the page is in a slot
-slot-fits : (c : tie.Then3) → c .before .before .before .bring-in .result .slot * pageSize (world (c .before .before .before .before .before .before .before .before .before .before .before .before .before .before .before .before .before .before .before .before)) ≤ 268431360
+-- the page has a slot
+slot-fits : (c : tie.Else3) → c .before .before .slot-for .result .slot * pageSize (world (c .before .before .before .before .before .before .before .before .before .before .before .before .before .before .before .before .before .before)) ≤ 268431360
 slot-fits c =
-    let b = c .before .before .before .bring-in in
-    slot-small (world (c .before .before .before .before .before .before .before .before .before .before .before .before .before .before .before .before .before .before .before .before)) _ _ _ (accepted (c .before .before .before .before .before .before .before .before .before .before .before)) (whole (c .before .before .before .before .before .before .before .before .before .before .before .before .before .before .before .before .before .before .before .before)) (b .result) (b .last .1 .1 .1 .0) (b .ensures) (c .if3 .taken)
+    let b = c .before .before .slot-for in
+    let a = accepted (c .before .before .before .before .before .before .before .before .before) in
+    slot-small (world (c .before .before .before .before .before .before .before .before .before .before .before .before .before .before .before .before .before .before)) (a .stands) (whole (c .before .before .before .before .before .before .before .before .before .before .before .before .before .before .before .before .before .before)) _ (access-asks _ _ _ _ a .1) (b .result) (b .ensures) (not-false _ (c .if3 .left))
 
-in-buffer : (c : tie.Then3)
-    → c .before .before .before .bring-in .result .slot * pageSize (world (c .before .before .before .before .before .before .before .before .before .before .before .before .before .before .before .before .before .before .before .before)) + c .before .before .before .before .before .before .before .before .before .before .before .before .before .before .before .before .before .before .before .before .args .offset + length (c .before .before .before .before .before .before .before .before .before .before .before .before .before .before .before .before .before .before .before .before .args .into .now) ≤ length (c .before .before .before .bring-in .last .1 .1 .1 .0)
+slot-room : (c : tie.Else3) → c .before .before .slot-for .result .slot * pageSize (world (c .before .before .before .before .before .before .before .before .before .before .before .before .before .before .before .before .before .before)) + pageSize (world (c .before .before .before .before .before .before .before .before .before .before .before .before .before .before .before .before .before .before)) ≤ length (c .before .before .before .before .before .before .before .before .before .before .before .before .before .before .before .before .before .before .args .buffer .now)
+slot-room c =
+    let b = c .before .before .slot-for in
+    let a = accepted (c .before .before .before .before .before .before .before .before .before) in
+    slot-long (world (c .before .before .before .before .before .before .before .before .before .before .before .before .before .before .before .before .before .before)) (a .stands) (whole (c .before .before .before .before .before .before .before .before .before .before .before .before .before .before .before .before .before .before)) _ (access-asks _ _ _ _ a .1) (b .result) (b .ensures) (not-false _ (c .if3 .left))
+
+-- and is in it
+in-buffer : (c : tie.After-bring)
+    → c .before .before .before .before .slot-for .result .slot * pageSize (world (c .before .before .before .before .before .before .before .before .before .before .before .before .before .before .before .before .before .before .before .before)) + c .before .before .before .before .before .before .before .before .before .before .before .before .before .before .before .before .before .before .before .before .args .offset + length (c .before .before .before .before .before .before .before .before .before .before .before .before .before .before .before .before .before .before .before .before .args .into .now) ≤ length (c .bring .last .1 .1 .1 .0)
 in-buffer c =
-    let b = c .before .before .before .bring-in in
-    access-buffer (world (c .before .before .before .before .before .before .before .before .before .before .before .before .before .before .before .before .before .before .before .before)) _ _ _ (accepted (c .before .before .before .before .before .before .before .before .before .before .before)) (whole (c .before .before .before .before .before .before .before .before .before .before .before .before .before .before .before .before .before .before .before .before)) (b .result) (b .last .1 .1 .1 .0) (b .ensures) (c .if3 .taken)
+    access-buffer (world (c .before .before .before .before .before .before .before .before .before .before .before .before .before .before .before .before .before .before .before .before)) _ _ _ (accepted (c .before .before .before .before .before .before .before .before .before .before .before)) _ (slot-room (c .before .before)) (c .bring .last .1 .1 .1 .0) (ap length (c .bring .ensures) ∙ brought-length _ _ _ _)
 
 accesses-requires : tie.Need-accesses-requires
 accesses-requires c κs = search needs
@@ -95,22 +104,14 @@ returns-2 c =
     (c .before .raw-bypass .result) (c .before .raw-bypass .ensures)
     (c .before .before .before .before .copy .last .1 .1 .0) (rw (t .before .before .before .before .wide2 .ensures .0, t .before .before .before .before .before .wide .ensures .0, t .before .before .before .wide3 .ensures .0) at (c .before .before .before .before .copy .ensures)))
 
-bring-in-requires : tie.Need-bring-in-requires
-bring-in-requires c κs = access-usable _ _ _ _ (accepted (c .before .before .before .before .before .before .before))
-
-mul-copy : tie.Need-mul-copy
-mul-copy c = rw (c .before .before .before .before .before .before .before .before .before .before .before .before .wide .ensures .0) (omega (arith, slot-fits (c .before .before)))
-
-wide-requires-5 : tie.Need-wide-requires-5
-wide-requires-5 c κs = search needs
-
-add-copy : tie.Need-add-copy
-add-copy c =
-    rw (c .before .before .before .before .before .before .before .before .before .before .before .before .before .wide .ensures .0, c .wide5 .ensures .0)
-    (omega (arith, slot-fits (c .before .before .before), access-small _ _ _ _ (accepted (c .before .before .before .before .before .before .before .before .before .before .before .before .before .before))))
+slot-for-requires : tie.Need-slot-for-requires
+slot-for-requires c κs = access-asks _ _ _ _ (accepted (c .before .before .before .before .before .before))
 
 copy-requires-2 : tie.Need-copy-requires-2
-copy-requires-2 c κs = (rw (c .before .before .before .before .before .before .before .before .before .before .before .before .before .before .wide .ensures .0, c .before .wide5 .ensures .0) (in-buffer (c .before .before .before .before)), search needs)
+copy-requires-2 c κs = (rw (c .before .before .before .before .before .before .before .before .wide2 .ensures .0, c .before .before .before .before .before .before .before .before .before .wide .ensures .0, c .before .before .before .before .before .before .before .wide3 .ensures .0) (access-base _ _ _ _ (accepted (c .before .before .before .before .before .before .before .before .before .before))), search needs)
+
+meta-bypass-requires : tie.Need-meta-bypass-requires
+meta-bypass-requires c κs = search needs
 
 accepted-requires-2 : tie.Need-accepted-requires-2
 accepted-requires-2 c κs = search needs
@@ -123,44 +124,60 @@ same-length-5 c = search needs
 
 returns-3 : tie.Need-returns-3
 returns-3 c =
-    let f = c .before .before .before .before .before .before .before .before .before in
-    let b = f .before .before .before .bring-in in
-    let t = f .before .before .before .before .before in
+    let f = c .before .before .before .before .before .before in
+    let b = f .before .before .slot-for in
+    let t = f .before .before .before in
     let a = t .before .before .before .before .before .before in
     let s = a .before .before .before .before .before .before .before .before .before in
     rw (c .accepted2 .ensures)
-    (read-found (world s) (s .args .page .0) (s .args .offset) (s .args .into .now) (accepted a) (rw (t .before .before .wide4 .ensures .0) at (t .if2 .left))
-    (b .result) (b .last .1 .1 .1 .0) (b .ensures) (in-buffer f) (f .if3 .taken)
-    (c .before .before .before .before .copy2 .last .1 .1 .0) (rw (t .before .before .before .before .before .wide .ensures .0, c .before .before .before .before .before .before .wide5 .ensures .0) at (c .before .before .before .before .copy2 .ensures)))
+    (read-nowhere (world s) (s .args .page .0) (s .args .offset) (s .args .into .now) (accepted a) (rw (t .before .before .wide4 .ensures .0) at (t .if2 .left))
+    (b .result) (b .ensures) (not-true _ (f .if3 .taken))
+    (c .before .meta-bypass .result) (c .before .meta-bypass .ensures)
+    (c .before .before .before .before .copy2 .last .1 .1 .0) (rw (t .before .before .before .before .wide2 .ensures .0, t .before .before .before .before .before .wide .ensures .0, t .before .before .before .wide3 .ensures .0) at (c .before .before .before .before .copy2 .ensures)))
+
+bring-requires : tie.Need-bring-requires
+bring-requires c κs = rw (c .before .before .before .before .before .before .before .before .before .wide .ensures .0) (access-page _ _ _ _ (accepted (c .before .before .before .before .before .before .before .before .before .before)), slot-room (c .before))
+
+mul-copy : tie.Need-mul-copy
+mul-copy c = rw (c .before .before .before .before .before .before .before .before .before .before .before .before .before .before .wide .ensures .0) (omega (arith, slot-fits (c .before .before .before .before .before .before)))
+
+wide-requires-5 : tie.Need-wide-requires-5
+wide-requires-5 c κs = search needs
+
+add-copy : tie.Need-add-copy
+add-copy c =
+    rw (c .before .before .before .before .before .before .before .before .before .before .before .before .before .before .before .wide .ensures .0, c .wide5 .ensures .0)
+    (omega (arith, slot-fits (c .before .before .before .before .before .before .before), access-small _ _ _ _ (accepted (c .before .before .before .before .before .before .before .before .before .before .before .before .before .before .before .before))))
 
 copy-requires-3 : tie.Need-copy-requires-3
-copy-requires-3 c κs =
-    (rw (c .before .before .before .before .before .before .before .before .before .before .wide2 .ensures .0, c .before .before .before .before .before .before .before .before .before .before .before .wide .ensures .0, c .before .before .before .before .before .before .before .before .before .wide3 .ensures .0) (access-base _ _ _ _ (accepted (c .before .before .before .before .before .before .before .before .before .before .before .before))), search needs)
+copy-requires-3 c κs = (rw (c .before .before .before .before .before .before .before .before .before .before .before .before .before .before .before .before .wide .ensures .0, c .before .wide5 .ensures .0) (in-buffer (c .before .before .before .before .before .before)), search needs)
 
-meta-bypass-requires : tie.Need-meta-bypass-requires
-meta-bypass-requires c κs = search needs
+used-requires : tie.Need-used-requires
+used-requires c κs = search needs
 
 accepted-requires-3 : tie.Need-accepted-requires-3
 accepted-requires-3 c κs = search needs
 
 same-length-6 : tie.Need-same-length-6
-same-length-6 c = search needs
+same-length-6 c = ap length (c .before .before .before .before .before .before .before .before .before .before .before .before .before .before .before .before .bring .ensures) ∙ brought-length _ _ _ _
 
 same-length-7 : tie.Need-same-length-7
 same-length-7 c = search needs
 
 returns-4 : tie.Need-returns-4
 returns-4 c =
-    let f = c .before .before .before .before .before .before in
-    let b = f .before .before .before .bring-in in
-    let t = f .before .before .before .before .before in
+    let g = c .before .before .before .before .before .before .before .before .before .before .before .before .before .before .before .before in
+    let f = g .before .before in
+    let b = f .before .before .slot-for in
+    let t = f .before .before .before in
     let a = t .before .before .before .before .before .before in
     let s = a .before .before .before .before .before .before .before .before .before in
     rw (c .accepted3 .ensures)
-    (read-nowhere (world s) (s .args .page .0) (s .args .offset) (s .args .into .now) (accepted a) (rw (t .before .before .wide4 .ensures .0) at (t .if2 .left))
-    (b .result) (b .last .1 .1 .1 .0) (b .ensures) (f .if3 .left)
-    (c .before .meta-bypass .result) (c .before .meta-bypass .ensures)
-    (c .before .before .before .before .copy3 .last .1 .1 .0) (rw (t .before .before .before .before .wide2 .ensures .0, t .before .before .before .before .before .wide .ensures .0, t .before .before .before .wide3 .ensures .0) at (c .before .before .before .before .copy3 .ensures)))
+    (read-found (world s) (s .args .page .0) (s .args .offset) (s .args .into .now) (accepted a) (rw (t .before .before .wide4 .ensures .0) at (t .if2 .left))
+    (b .result) (b .ensures) (not-false _ (f .if3 .left))
+    (g .bring .last .1 .1 .1 .0) (rw (t .before .before .before .before .before .wide .ensures .0) at (g .bring .ensures)) (in-buffer g)
+    (c .before .before .before .before .before .before .before .before .before .copy3 .last .1 .1 .0) (rw (t .before .before .before .before .before .wide .ensures .0, c .before .before .before .before .before .before .before .before .before .before .before .wide5 .ensures .0) at (c .before .before .before .before .before .before .before .before .before .copy3 .ensures))
+    (c .before .before .before .before .used .result) (c .before .before .before .before .used .ensures))
 
 pub read-spec : {M : Type 1} → statement M
 read-spec =
@@ -183,17 +200,19 @@ read-spec =
     same-length-2
     same-length-3
     returns-2
-    bring-in-requires
-    mul-copy
-    wide-requires-5
-    add-copy
+    slot-for-requires
     copy-requires-2
+    meta-bypass-requires
     accepted-requires-2
     same-length-4
     same-length-5
     returns-3
+    bring-requires
+    mul-copy
+    wide-requires-5
+    add-copy
     copy-requires-3
-    meta-bypass-requires
+    used-requires
     accepted-requires-3
     same-length-6
     same-length-7

@@ -1,13 +1,14 @@
 use Prim.Native.Nat.{_≤_, _<_, _+_, _*_}
+use mathlib.Core.Path.{_∙_, ap}
 use native.Mathlib.Omega.{arith}
 use lib.ListN.{length}
 use borrow.Author.Tests.{not-true, not-false}
+use Rattle.lists.specs.Maps.{length-mapped}
 use Rattle.octets.specs.Part.{length-lay}
-use Rattle.slots.proofs.Turns.{length-mapped}
 use Rattle.slots.specs.Sits.{Whole}
 use Rattle.recorder.specs.Outcome.{lent}
 use Rattle.recorder.specs.World.{World, pageSize}
-use Rattle.recorder.proofs.Accepted.{inner, brought-length, Access, access, access-usable, access-small, access-kinds, access-base, access-sixteen, slot-small, access-buffer}
+use Rattle.recorder.proofs.Accepted.{slot-sixteen, slot-small, slot-long, brought-length, Access, access, access-asks, access-small, access-kinds, access-page, access-base, access-buffer}
 use Rattle.recorder.proofs.Replied.{write-refused, write-raw, write-found, write-nowhere}
 use borrow.Author.Needs.{needs}
 use Rattle.recorder.proofs.calls.write.Statement.{statement}
@@ -23,22 +24,30 @@ whole s = record { pages = search (needs, length-mapped); changed = search needs
 accepted : (c : tie.Else1) → Access (world (c .before .before .before .before .before .before .before .before .before .before)) (c .before .before .before .before .before .before .before .before .before .before .args .page .0) (c .before .before .before .before .before .before .before .before .before .before .args .offset) (length (c .before .before .before .before .before .before .before .before .before .before .args .bytes .now))
 accepted c = access (world (c .before .before .before .before .before .before .before .before .before .before)) _ _ _ (c .before .accesses .result) (c .before .accesses .ensures) (c .if1 .left)
 
--- the page is in a slot
-slot-low : (c : tie.Else3) → c .before .before .before .before .bring-in .result .slot < 16
+-- the page has a slot
+slot-low : (c : tie.Else3) → c .before .before .slot-for .result .slot < 16
 slot-low c =
-    let b = c .before .before .before .before .bring-in in
-    access-sixteen (world (c .before .before .before .before .before .before .before .before .before .before .before .before .before .before .before .before .before .before .before .before .before)) _ _ _ (accepted (c .before .before .before .before .before .before .before .before .before .before .before)) (whole (c .before .before .before .before .before .before .before .before .before .before .before .before .before .before .before .before .before .before .before .before .before)) (b .result) (b .last .1 .1 .1 .0) (b .ensures) (not-false _ (c .if3 .left))
+    let b = c .before .before .slot-for in
+    let a = accepted (c .before .before .before .before .before .before .before) in
+    slot-sixteen (world (c .before .before .before .before .before .before .before .before .before .before .before .before .before .before .before .before .before)) (a .stands) (whole (c .before .before .before .before .before .before .before .before .before .before .before .before .before .before .before .before .before)) _ (access-asks _ _ _ _ a .1) (b .result) (b .ensures) (not-false _ (c .if3 .left))
 
-slot-fits : (c : tie.Else3) → c .before .before .before .before .bring-in .result .slot * pageSize (world (c .before .before .before .before .before .before .before .before .before .before .before .before .before .before .before .before .before .before .before .before .before)) ≤ 268431360
+slot-fits : (c : tie.Else3) → c .before .before .slot-for .result .slot * pageSize (world (c .before .before .before .before .before .before .before .before .before .before .before .before .before .before .before .before .before)) ≤ 268431360
 slot-fits c =
-    let b = c .before .before .before .before .bring-in in
-    slot-small (world (c .before .before .before .before .before .before .before .before .before .before .before .before .before .before .before .before .before .before .before .before .before)) _ _ _ (accepted (c .before .before .before .before .before .before .before .before .before .before .before)) (whole (c .before .before .before .before .before .before .before .before .before .before .before .before .before .before .before .before .before .before .before .before .before)) (b .result) (b .last .1 .1 .1 .0) (b .ensures) (not-false _ (c .if3 .left))
+    let b = c .before .before .slot-for in
+    let a = accepted (c .before .before .before .before .before .before .before) in
+    slot-small (world (c .before .before .before .before .before .before .before .before .before .before .before .before .before .before .before .before .before)) (a .stands) (whole (c .before .before .before .before .before .before .before .before .before .before .before .before .before .before .before .before .before)) _ (access-asks _ _ _ _ a .1) (b .result) (b .ensures) (not-false _ (c .if3 .left))
 
-in-buffer : (c : tie.Else3)
-    → c .before .before .before .before .bring-in .result .slot * pageSize (world (c .before .before .before .before .before .before .before .before .before .before .before .before .before .before .before .before .before .before .before .before .before)) + c .before .before .before .before .before .before .before .before .before .before .before .before .before .before .before .before .before .before .before .before .before .args .offset + length (c .before .before .before .before .before .before .before .before .before .before .before .before .before .before .before .before .before .before .before .before .before .args .bytes .now) ≤ length (c .before .before .before .before .bring-in .last .1 .1 .1 .0)
+slot-room : (c : tie.Else3) → c .before .before .slot-for .result .slot * pageSize (world (c .before .before .before .before .before .before .before .before .before .before .before .before .before .before .before .before .before)) + pageSize (world (c .before .before .before .before .before .before .before .before .before .before .before .before .before .before .before .before .before)) ≤ length (c .before .before .before .before .before .before .before .before .before .before .before .before .before .before .before .before .before .args .buffer .now)
+slot-room c =
+    let b = c .before .before .slot-for in
+    let a = accepted (c .before .before .before .before .before .before .before) in
+    slot-long (world (c .before .before .before .before .before .before .before .before .before .before .before .before .before .before .before .before .before)) (a .stands) (whole (c .before .before .before .before .before .before .before .before .before .before .before .before .before .before .before .before .before)) _ (access-asks _ _ _ _ a .1) (b .result) (b .ensures) (not-false _ (c .if3 .left))
+
+-- and is in it
+in-buffer : (c : tie.After-bring)
+    → c .before .before .before .before .before .slot-for .result .slot * pageSize (world (c .before .before .before .before .before .before .before .before .before .before .before .before .before .before .before .before .before .before .before .before)) + c .before .before .before .before .before .before .before .before .before .before .before .before .before .before .before .before .before .before .before .before .args .offset + length (c .before .before .before .before .before .before .before .before .before .before .before .before .before .before .before .before .before .before .before .before .args .bytes .now) ≤ length (c .bring .last .1 .1 .1 .0)
 in-buffer c =
-    let b = c .before .before .before .before .bring-in in
-    access-buffer (world (c .before .before .before .before .before .before .before .before .before .before .before .before .before .before .before .before .before .before .before .before .before)) _ _ _ (accepted (c .before .before .before .before .before .before .before .before .before .before .before)) (whole (c .before .before .before .before .before .before .before .before .before .before .before .before .before .before .before .before .before .before .before .before .before)) (b .result) (b .last .1 .1 .1 .0) (b .ensures) (not-false _ (c .if3 .left))
+    access-buffer (world (c .before .before .before .before .before .before .before .before .before .before .before .before .before .before .before .before .before .before .before .before)) _ _ _ (accepted (c .before .before .before .before .before .before .before .before .before .before)) _ (slot-room (c .before .before .before)) (c .bring .last .1 .1 .1 .0) (ap length (c .bring .ensures) ∙ brought-length _ _ _ _)
 
 accesses-requires : tie.Need-accesses-requires
 accesses-requires c κs = search needs
@@ -107,8 +116,8 @@ returns-2 c =
     (c .before .raw-bypass .result) (c .before .raw-bypass .ensures)
     (c .before .before .before .before .copy .last .1 .1 .0) (rw (c .before .before .before .before .before .before .wide3 .ensures .0, t .before .before .before .wide .ensures .0, c .before .before .before .before .before .wide4 .ensures .0) at (c .before .before .before .before .copy .ensures)))
 
-bring-in-requires : tie.Need-bring-in-requires
-bring-in-requires c κs = access-usable _ _ _ _ (accepted (c .before .before .before .before .before .before))
+slot-for-requires : tie.Need-slot-for-requires
+slot-for-requires c κs = access-asks _ _ _ _ (accepted (c .before .before .before .before))
 
 refused-requires-2 : tie.Need-refused-requires-2
 refused-requires-2 c κs = search needs
@@ -121,30 +130,36 @@ same-length-6 c = search needs
 
 returns-3 : tie.Need-returns-3
 returns-3 c =
-    let b = c .before .before .before .before .before .bring-in in
-    let t = c .before .before .before .before .before .before .before .before in
+    let b = c .before .before .before .slot-for in
+    let t = c .before .before .before .before in
     let a = t .before .before .before .before in
     let s = a .before .before .before .before .before .before .before .before .before .before in
     rw (c .refused2 .ensures)
     (write-nowhere (world s) (s .args .page .0) (s .args .offset) (s .args .bytes .now) (accepted a) (rw (t .before .before .wide2 .ensures .0) at (t .if2 .left))
-    (b .result) (b .last .1 .1 .1 .0) (b .ensures) (not-true _ (c .before .if3 .taken)))
+    (b .result) (b .ensures) (not-true _ (c .before .if3 .taken)))
+
+bring-requires : tie.Need-bring-requires
+bring-requires c κs = rw (c .before .before .before .before .before .before .before .before .wide .ensures .0) (access-page _ _ _ _ (accepted (c .before .before .before .before .before .before .before .before .before)), slot-room (c .before .before))
 
 mul-copy-2 : tie.Need-mul-copy-2
-mul-copy-2 c = rw (c .before .before .before .before .before .before .before .before .before .before .before .before .wide .ensures .0) (omega (arith, slot-fits (c .before .before)))
+mul-copy-2 c = rw (c .before .before .before .before .before .before .before .before .before .before .before .before .before .wide .ensures .0) (omega (arith, slot-fits (c .before .before .before .before .before .before .before)))
 
 wide-requires-5 : tie.Need-wide-requires-5
 wide-requires-5 c κs = search needs
 
 add-copy-2 : tie.Need-add-copy-2
 add-copy-2 c =
-    rw (c .before .before .before .before .before .before .before .before .before .before .before .before .before .wide .ensures .0, c .wide5 .ensures .0)
-    (omega (arith, slot-fits (c .before .before .before), access-small _ _ _ _ (accepted (c .before .before .before .before .before .before .before .before .before .before .before .before .before .before))))
+    rw (c .before .before .before .before .before .before .before .before .before .before .before .before .before .before .wide .ensures .0, c .wide5 .ensures .0)
+    (omega (arith, slot-fits (c .before .before .before .before .before .before .before .before), access-small _ _ _ _ (accepted (c .before .before .before .before .before .before .before .before .before .before .before .before .before .before .before))))
 
 copy-requires-2 : tie.Need-copy-requires-2
-copy-requires-2 c κs = (search needs, rw (c .before .before .before .before .before .before .before .before .before .before .before .before .before .wide .ensures .0, c .wide5 .ensures .0) (in-buffer (c .before .before .before)))
+copy-requires-2 c κs = (search needs, rw (c .before .before .before .before .before .before .before .before .before .before .before .before .before .before .wide .ensures .0, c .wide5 .ensures .0) (in-buffer (c .before .before .before .before .before)))
 
 mark-requires : tie.Need-mark-requires
-mark-requires c κs = slot-low (c .before .before .before .before .before .before .before .before)
+mark-requires c κs = slot-low (c .before .before .before .before .before .before .before .before .before .before .before .before .before)
+
+used-requires : tie.Need-used-requires
+used-requires c κs = search needs
 
 accepted-requires-2 : tie.Need-accepted-requires-2
 accepted-requires-2 c κs = search needs
@@ -153,22 +168,22 @@ same-length-7 : tie.Need-same-length-7
 same-length-7 c = search needs
 
 same-length-8 : tie.Need-same-length-8
-same-length-8 c =
-    let b = c .before .before .before .before .before .before .before .before .before .before .before .before .before .before .before .before .before .before .bring-in in
-    rw (c .before .before .before .before .before .before .before .before .before .before .copy2 .ensures, length-lay) (brought-length (inner (world (c .before .before .before .before .before .before .before .before .before .before .before .before .before .before .before .before .before .before .before .before .before .before .before .before .before .before .before .before .before .before .before .before .before .before .before))) _ (b .result) (b .last .1 .1 .1 .0) (b .ensures))
+same-length-8 c = ap length (c .before .before .before .before .before .before .before .before .before .before .copy2 .ensures) ∙ length-lay _ _ _ ∙ ap length (c .before .before .before .before .before .before .before .before .before .before .before .before .before .before .before .before .bring .ensures) ∙ brought-length _ _ _ _
 
 returns-4 : tie.Need-returns-4
 returns-4 c =
-    let f = c .before .before .before .before .before .before .before .before .before .before .before .before .before .before in
-    let b = f .before .before .before .before .bring-in in
-    let t = f .before .before .before .before .before .before .before in
+    let g = c .before .before .before .before .before .before .before .before .before .before .before .before .before .before .before .before in
+    let f = g .before .before .before in
+    let b = f .before .before .slot-for in
+    let t = f .before .before .before in
     let a = t .before .before .before .before in
     let s = a .before .before .before .before .before .before .before .before .before .before in
     rw (c .accepted2 .ensures)
     (write-found (world s) (s .args .page .0) (s .args .offset) (s .args .bytes .now) (accepted a) (rw (t .before .before .wide2 .ensures .0) at (t .if2 .left))
-    (b .result) (b .last .1 .1 .1 .0) (b .ensures) (not-false _ (f .if3 .left))
-    (c .before .before .before .before .before .mark .result) (c .before .before .before .before .before .mark .ensures)
-    (c .before .before .before .before .before .before .before .before .before .before .copy2 .last .1 .1 .0) (rw (t .before .before .before .wide .ensures .0, c .before .before .before .before .before .before .before .before .before .before .before .wide5 .ensures .0) at (c .before .before .before .before .before .before .before .before .before .before .copy2 .ensures)))
+    (b .result) (b .ensures) (not-false _ (f .if3 .left))
+    (g .bring .last .1 .1 .1 .0) (rw (t .before .before .before .wide .ensures .0) at (g .bring .ensures))
+    (c .before .before .before .before .before .before .before .before .before .before .copy2 .last .1 .1 .0) (rw (t .before .before .before .wide .ensures .0, c .before .before .before .before .before .before .before .before .before .before .before .wide5 .ensures .0) at (c .before .before .before .before .before .before .before .before .before .before .copy2 .ensures))
+    (c .before .before .before .before .before .mark .result) (c .before .before .before .before .before .mark .ensures) (c .before .before .before .before .used .result) (c .before .before .before .before .used .ensures))
 
 pub write-spec : {M : Type 1} → statement M
 write-spec =
@@ -192,16 +207,18 @@ write-spec =
     same-length-3
     same-length-4
     returns-2
-    bring-in-requires
+    slot-for-requires
     refused-requires-2
     same-length-5
     same-length-6
     returns-3
+    bring-requires
     mul-copy-2
     wide-requires-5
     add-copy-2
     copy-requires-2
     mark-requires
+    used-requires
     accepted-requires-2
     same-length-7
     same-length-8

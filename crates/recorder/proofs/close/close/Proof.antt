@@ -35,13 +35,14 @@ same-length-3 c = search needs
 returns : tie.Need-returns
 returns c = close-refused (world (c .before .before .before .before .before .before .before .before .before .before)) (c .before .closes .result) (c .before .closes .ensures) (c .if1 .taken)
 
-add-t18 : tie.Need-add-t18
-add-t18 c = omega (arith, close-low (world (start (c .before))) (passed (c .before)))
+add-t19 : tie.Need-add-t19
+add-t19 c = omega (arith, close-low (world (start (c .before))) (passed (c .before)))
 
 of-close-requires : tie.Need-of-close-requires
 of-close-requires c κs =
-    let a = start (c .before .before) .args in
-    (rules-alone (a .state) (a .ledger .now) (a .base .now) (a .side .now) (a .buffer .now) (a .kinds .now) (close-stands (world (start (c .before .before))) (passed (c .before .before)) .ruled), refl)
+    let e = c .before .before .before in
+    let a = start e .args in
+    (rules-alone (a .state) (a .ledger .now) (a .base .now) (a .side .now) (a .buffer .now) (a .kinds .now) (close-stands (world (start e)) (passed e) .ruled), refl, refl)
 
 same-length-4 : tie.Need-same-length-4
 same-length-4 c = search needs
@@ -54,18 +55,18 @@ same-length-6 c = search needs
 
 returns-2 : tie.Need-returns-2
 returns-2 c =
-    let e = c .before .before .before .before .before in
+    let e = c .before .before .before .before .before .before in
     let a = start e .args in
     let p = c .before .before .of-close in
     close-short (world (start e)) (passed e)
-    (sym (told (a .state) (a .ledger .now) (a .base .now) (a .side .now) (a .buffer .now) (a .kinds .now) (p .result) (p .ensures)) ∙ not-true _ (c .if2 .taken))
+    (sym (told (a .state) (a .ledger .now) (a .base .now) (a .side .now) (a .buffer .now) (a .kinds .now) (p .result) (p .last .1 .1 .1 .0) (p .ensures)) ∙ not-true _ (c .if2 .taken))
 
 carry-out-requires : tie.Need-carry-out-requires
 carry-out-requires c κs =
-    let e = c .before .before .before .before .before .before .before .before in
+    let e = c .before .before .before .before .before .before .before .before .before .before in
     let a = start e .args in
-    let p = c .before .before .before .before .before .of-close in
-    can-carry (a .state) (a .ledger .now) (a .base .now) (a .side .now) (a .buffer .now) (a .kinds .now) (passed e) (p .result) (p .ensures) (not-false _ (c .before .before .before .if2 .left))
+    let p = c .before .before .before .before .before .before .of-close in
+    can-carry (a .state) (a .ledger .now) (a .base .now) (a .side .now) (a .buffer .now) (a .kinds .now) (passed e) (p .result) (p .last .1 .1 .1 .0) (p .ensures) (not-false _ (c .before .before .before .before .if2 .left))
 
 same-length-7 : tie.Need-same-length-7
 same-length-7 c = search needs
@@ -78,12 +79,12 @@ same-length-9 c = search needs
 
 returns-3 : tie.Need-returns-3
 returns-3 c =
-    let e = c .before .before .before .before .before .before .before .before .before .before .before .before .before .before .before in
+    let e = c .before .before .before .before .before .before .before .before .before .before .before .before .before .before .before .before .before in
     let a = start e .args in
-    let p = c .before .before .before .before .before .before .before .before .before .before .before .before .of-close in
+    let p = c .before .before .before .before .before .before .before .before .before .before .before .before .before .of-close in
     ap (λ (w : World). accept w []) (c .before .before .before .before .before .before .carry-out .ensures (a .kinds .now))
     ∙ close-done (world (start e)) (passed e)
-    (sym (told (a .state) (a .ledger .now) (a .base .now) (a .side .now) (a .buffer .now) (a .kinds .now) (p .result) (p .ensures)) ∙ not-false _ (c .before .before .before .before .before .before .before .before .before .before .if2 .left))
+    (sym (told (a .state) (a .ledger .now) (a .base .now) (a .side .now) (a .buffer .now) (a .kinds .now) (p .result) (p .last .1 .1 .1 .0) (p .ensures)) ∙ not-false _ (c .before .before .before .before .before .before .before .before .before .before .before .if2 .left))
 
 pub close-spec : {M : Type 1} → statement M
 close-spec =
@@ -94,7 +95,7 @@ close-spec =
     same-length-2
     same-length-3
     returns
-    add-t18
+    add-t19
     of-close-requires
     same-length-4
     same-length-5

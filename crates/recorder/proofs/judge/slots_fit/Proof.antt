@@ -5,8 +5,8 @@ use native.Mathlib.Omega.{arith}
 use borrow.Author.Needs.{needs}
 use borrow.Author.Tests.{eq-eqb, ne-eqb}
 use Rattle.lists.specs.Below.{below}
+use Rattle.lists.specs.Passes.{allFrom, all-start, all-turn, all-stop, all-end}
 use Rattle.lists.specs.Scans.{allOf}
-use Rattle.ledger.proofs.Judging.{allFrom, all-start, all-stop, all-turn, all-end}
 use Rattle.recorder.proofs.Passes.{fitting, fits-vacant, fits-kind, page-low}
 use Rattle.recorder.proofs.judge.slots_fit.Statement.{statement}
 use Rattle.recorder.proofs.judge.slots_fit.Tie as tie

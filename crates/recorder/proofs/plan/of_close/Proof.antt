@@ -7,8 +7,8 @@ use lib.Dec.{eqb, leb}
 use lib.ListN.{length}
 use borrow.Author.Needs.{needs}
 use borrow.Author.Tests.{eq-eqb, ne-eqb}
+use Rattle.lists.specs.Maps.{length-mapped}
 use Rattle.units.specs.Sizes.{entries}
-use Rattle.ledger.specs.Lists.{length-mapped}
 use Rattle.recorder.specs.Outcome.{lent}
 use Rattle.recorder.specs.Planned.{Planned}
 use Rattle.recorder.specs.World.{World}
@@ -43,30 +43,28 @@ wait-requires c κs = search needs
 
 retiring-rows-requires : tie.Need-retiring-rows-requires
 retiring-rows-requires c κs =
-    let q = ruled (c .before .before .before .before .before .before .before .before .before) in
-    let n = c .before .before .before .before .before .before .wide .ensures .0 in
-    (rw n (q .rows), rw n (q .few), c .before .before .before .changed-pages .ensures .0, rw n (q .ascends))
+    let s = c .before .before .before .before .before .before .before .before .before .before in
+    let q = ruled s in
+    let n = c .before .before .before .before .before .before .before .wide .ensures .0 in
+    (rw n (q .rows), rw n (q .few), c .before .before .before .before .changed-pages .ensures .0, rw n (q .ascends), s .pre .2)
 
 staying-requires : tie.Need-staying-requires
-staying-requires c κs =
-    rw (c .before .before .before .before .before .before .before .before .wide .ensures .0)
-    (ruled (c .before .before .before .before .before .before .before .before .before .before .before) .few)
+staying-requires c κs = rw (c .before .before .before .before .before .before .before .before .before .wide .ensures .0) (ruled (c .before .before .before .before .before .before .before .before .before .before .before .before) .few)
 
 add-later : tie.Need-add-later
 add-later c = search needs
 
 entries-requires : tie.Need-entries-requires
-entries-requires c κs =
-    ruled (c .before .before .before .before .before .before .before .before .before .before .before .before .before .before .before) .limited
+entries-requires c κs = ruled (c .before .before .before .before .before .before .before .before .before .before .before .before .before .before .before) .limited
 
 long : (c : tie.After-pages) → length (c .before .changed-pages .result .pages) ≡ 16
 long c = search (needs, length-mapped)
 
 -- the plan, by its answer whether there is enough
-made : (c : tie.After-entered) (enough : Bool)
+made : (c : tie.After-given) (enough : Bool)
     → enough
     ≡ (eqb (c .before .before .before .before .before .before .free-places .result .count) (c .before .before .before .before .before .before .before .before .changed-pages .result .count)
-    && leb (c .before .before .staying .result + c .before .before .before .before .before .before .before .before .changed-pages .result .count)
+    && leb (c .before .staying .result + c .before .before .before .before .before .before .before .before .changed-pages .result .count)
     (entries (c .before .before .before .before .before .before .before .before .before .before .before .before .before .before .args .state .settings)))
     → Planned (given (c .before .before .before .before .before .before .before .before .before .before .before .before .before .before))
     (record {
@@ -74,21 +72,22 @@ made : (c : tie.After-entered) (enough : Bool)
       count = c .before .before .before .before .before .before .before .before .changed-pages .result .count;
       pages = c .before .before .before .before .before .before .before .before .changed-pages .result .pages;
       places = c .before .before .before .before .before .before .free-places .result .places;
-      entered = c .before .before .before .before .retiring-rows .result .entered;
-      going = c .before .before .before .before .retiring-rows .result .rows;
+      entered = c .before .before .before .retiring-rows .result;
     })
+    (c .before .before .before .retiring-rows .last .1 .1 .1 .1 .1 .1 .0)
 made c enough e =
-    let g = c .before .before .before .before in
-    let f = g .before .before in
+    let g = c .before .before .before in
+    let f = g .before .before .before in
     let p = f .before .before in
     let n = p .before .before .before in
     let s = n .before .before .before in
-    plans (given s) (s .pre .0) _ (s .args .tick) (n .wide .result) (p .before .wide2 .result) (g .before .wait .result) (f .free-places .result .count) (c .before .before .staying .result)
-    (s .pre .1) (n .wide .ensures .0) (p .before .wide2 .ensures .0) (g .before .wait .ensures)
+    plans (given s) (s .pre .0) _ (g .retiring-rows .last .1 .1 .1 .1 .1 .1 .0) (s .args .tick) (n .wide .result) (p .before .wide2 .result) (g .before .before .wait .result)
+    (f .free-places .result .count) (c .before .staying .result)
+    (s .pre .1) (n .wide .ensures .0) (p .before .wide2 .ensures .0) (g .before .before .wait .ensures)
     (long (f .before)) (p .changed-pages .ensures .0) (p .changed-pages .ensures .1)
     (f .free-places .ensures .0) (f .free-places .ensures .1)
     (g .retiring-rows .ensures .0) (g .retiring-rows .ensures .1)
-    (c .before .before .staying .ensures .0) e
+    (c .before .staying .ensures .0) e
 
 returns : tie.Need-returns
 returns c = made (c .before .before) _ (rw (eq-eqb _ _ (c .before .if1 .taken), c .entries .ensures .0))

@@ -4,8 +4,8 @@ use mathlib.Core.List.{[]}
 use native.Mathlib.Omega.{arith}
 use borrow.Author.Needs.{needs}
 use lib.ListN.{length, take, replicate, length-set}
-use Rattle.ledger.specs.Changed.{numbersOf}
-use Rattle.ledger.specs.Lists.{length-mapped}
+use Rattle.lists.specs.Maps.{length-mapped}
+use Rattle.units.specs.Pages.{numbersOf}
 use Rattle.sidefile.specs.Encode.{checksum}
 use Rattle.recorder.specs.Outcome.{lent}
 use Rattle.recorder.specs.Stretches.{imagesLaid, imageSums}

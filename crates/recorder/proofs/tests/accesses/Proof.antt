@@ -1,9 +1,10 @@
 use mathlib.Core.Path.{_∙_}
+use Rattle.units.specs.Tests.{stopped}
 use Rattle.recorder.specs.Calls.{spanTests}
 use Rattle.recorder.specs.Outcome.{lent}
 use Rattle.recorder.specs.Rules.{standing}
 use Rattle.recorder.specs.World.{World}
-use Rattle.recorder.proofs.Testing.{stopped, stands-behind, stands-kinds, span-part}
+use Rattle.recorder.proofs.Testing.{stands-behind, stands-kinds, span-part}
 use borrow.Author.Needs.{needs}
 use Rattle.recorder.proofs.tests.accesses.Statement.{statement}
 use Rattle.recorder.proofs.tests.accesses.Tie as tie

@@ -1,12 +1,12 @@
 use mathlib.Core.List.{_++_}
 use mathlib.Core.Path.{_≡_, _∙_}
 use native.Mathlib.Omega.{arith}
-use Rattle.units.specs.Tests.{verdict}
+use Rattle.units.specs.Tests.{verdict, stopped}
 use Rattle.recorder.specs.Outcome.{lent}
 use Rattle.recorder.specs.Rules.{standing}
 use Rattle.recorder.specs.Tests.{lastTick}
 use Rattle.recorder.specs.World.{World}
-use Rattle.recorder.proofs.Testing.{stopped, stands-behind, tick-last, tick-good}
+use Rattle.recorder.proofs.Testing.{stands-behind, tick-last, tick-good}
 use borrow.Author.Needs.{needs}
 use Rattle.recorder.proofs.tests.closes.Statement.{statement}
 use Rattle.recorder.proofs.tests.closes.Tie as tie

@@ -1,11 +1,11 @@
 use mathlib.Core.List.{_++_}
 use mathlib.Core.Path.{_≡_, _∙_}
-use Rattle.units.specs.Tests.{verdict}
+use Rattle.units.specs.Tests.{verdict, stopped}
 use Rattle.recorder.specs.Calls.{growTests}
 use Rattle.recorder.specs.Outcome.{lent}
 use Rattle.recorder.specs.Rules.{standing}
 use Rattle.recorder.specs.World.{World}
-use Rattle.recorder.proofs.Testing.{stopped, stands-behind, grow-unknown, grow-full, grow-good}
+use Rattle.recorder.proofs.Testing.{stands-behind, grow-unknown, grow-full, grow-good}
 use borrow.Author.Needs.{needs}
 use Rattle.recorder.proofs.tests.grows.Statement.{statement}
 use Rattle.recorder.proofs.tests.grows.Tie as tie

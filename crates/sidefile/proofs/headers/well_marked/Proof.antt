@@ -3,8 +3,8 @@ use Prim.Native.Nat.{ℕ}
 use lib.Dec.{eqb}
 use borrow.Author.Tests.{lt-leb, le-leb, eq-eqb, ne-eqb}
 use Rattle.lists.specs.Scans.{done, more}
+use Rattle.units.specs.Tests.{fails-at, passes-last}
 use Rattle.sidefile.specs.Judge.{markTests}
-use Rattle.sidefile.specs.Passed.{fails-at, passes-last}
 use borrow.Author.Needs.{needs}
 use Rattle.sidefile.proofs.headers.well_marked.Statement.{statement}
 use Rattle.sidefile.proofs.headers.well_marked.Tie as tie

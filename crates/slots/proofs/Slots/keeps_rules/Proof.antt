@@ -5,12 +5,12 @@ use borrow.Author.Needs.{needs}
 use borrow.Author.Tests.{le-leb, lt-leb, not-true, not-false}
 use lib.Dec.{leb}
 use Rattle.lists.specs.Below.{below}
+use Rattle.lists.specs.Maps.{length-mapped}
 use Rattle.lists.specs.Scans.{allOf}
 use Rattle.slots.specs.Table.{uses}
 use Rattle.slots.specs.Rules.{slotRules}
 use Rattle.slots.specs.Judged.{rowKept, useKept}
 use Rattle.slots.proofs.Counted.{judged}
-use Rattle.slots.proofs.Turns.{length-mapped}
 use Rattle.slots.proofs.Slots.keeps_rules.Statement.{statement}
 use Rattle.slots.proofs.Slots.keeps_rules.Tie as tie
 

@@ -4,11 +4,11 @@ use mathlib.Core.List.{List}
 use native.Mathlib.Omega.{arith}
 use borrow.Author.Needs.{needs}
 use lib.ListN.{length, length-set}
+use Rattle.lists.specs.Maps.{length-mapped}
+use Rattle.units.specs.Pages.{numbersOf}
 use Rattle.units.specs.declared.Page.{Page}
 use Rattle.slots.specs.Table.{setOrder, times, uses}
 use Rattle.slots.specs.Answers.{relisted}
-use Rattle.slots.specs.Judged.{listed}
-use Rattle.slots.proofs.Turns.{length-mapped}
 use Rattle.slots.proofs.Listing.{moving, moving-start, moving-step, moving-stop, times-step}
 use Rattle.slots.proofs.Slots.relist.Statement.{statement}
 use Rattle.slots.proofs.Slots.relist.Tie as tie
@@ -17,7 +17,7 @@ abbrev Inv-loop : tie.InvT-loop
 Inv-loop gone self₀ carry₀ i₀ self carry i =
     (i ≤ 16)
     × (length (self .order) ≡ 16)
-    × (times (gone .0) (listed i (self .order)) ≡ 1)
+    × (times (gone .0) (numbersOf i (self .order)) ≡ 1)
     × (relisted (gone .0) (carry₀ .0) self₀ ≡ setOrder (moving (gone .0) i carry (self .order)) (self .used) self)
 
 abbrev μ-loop : tie.MeasureT-loop

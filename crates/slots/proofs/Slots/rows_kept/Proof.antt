@@ -1,19 +1,20 @@
 use Prim.Native.Nat.{_<_, _≤_, _-_}
 use mathlib.Core.Bool.{false}
-use mathlib.Core.Path.{_≡_, refl, _∙_, sym}
+use mathlib.Core.Path.{_≡_, _∙_, sym}
 use mathlib.Core.Logic.{⊎-elim}
 use native.Mathlib.Omega.{arith}
 use borrow.Author.Needs.{needs}
 use borrow.Author.Tests.{eq-eqb, ne-eqb}
-use Rattle.lists.specs.Below.{from, below}
+use Rattle.lists.specs.Below.{below}
+use Rattle.lists.specs.Passes.{allFrom, all-start, all-stop, all-turn, all-end}
 use Rattle.lists.specs.Scans.{allOf}
 use Rattle.slots.specs.Judged.{rowKept}
-use Rattle.slots.proofs.Turns.{all-here, all-next, all-end, row-empty, row-marked, row-past, row-counted}
+use Rattle.slots.proofs.Turns.{row-empty, row-marked, row-past, row-counted}
 use Rattle.slots.proofs.Slots.rows_kept.Statement.{statement}
 use Rattle.slots.proofs.Slots.rows_kept.Tie as tie
 
 abbrev Inv-loop : tie.InvT-loop
-Inv-loop slots self used order i₀ i = (i ≤ 16) × (allOf (rowKept slots self) (below 16) ≡ allOf (rowKept slots self) (from i (16 - i)))
+Inv-loop slots self used order i₀ i = (i ≤ 16) × (allOf (rowKept slots self) (below 16) ≡ allFrom (rowKept slots self) 16 i)
 
 abbrev μ-loop : tie.MeasureT-loop
 μ-loop slots self used order i₀ i = 16 - i
@@ -23,13 +24,13 @@ failed : (l : tie.At-loop Inv-loop μ-loop) → l .loop .i < 16
     → rowKept (l .before .before .before .args .slots) (l .before .before .before .args .t1) (l .loop .i) ≡ false
     → false ≡ allOf (rowKept (l .before .before .before .args .slots) (l .before .before .before .args .t1)) (below 16)
 failed l h e =
-    sym (l .loop .inv .1 ∙ all-here (rowKept (l .before .before .before .args .slots) (l .before .before .before .args .t1)) 16 (l .loop .i) h e)
+    sym (l .loop .inv .1 ∙ all-stop (rowKept (l .before .before .before .args .slots) (l .before .before .before .args .t1)) 16 (l .loop .i) h e)
 
 wide-requires : tie.Need-wide-requires Inv-loop μ-loop
 wide-requires c κs = search needs
 
 loop-holds : tie.Need-loop-holds Inv-loop μ-loop
-loop-holds c = (search needs, refl)
+loop-holds c = (search needs, all-start _ _)
 
 mul-held : tie.Need-mul-held Inv-loop μ-loop
 mul-held c = search needs
@@ -76,7 +77,7 @@ loop-again c =
     let a = l .before .before .before .args in (
       search needs,
       l .loop .inv .1
-          ∙ all-next (rowKept (a .slots) (a .t1)) 16 (l .loop .i) (omega arith)
+          ∙ all-turn (rowKept (a .slots) (a .t1)) 16 (l .loop .i) (omega arith)
           (⊎-elim (λ w. row-empty (a .slots) (a .t1) (l .loop .i) (w .0 .taken) (w .2 .left))
           (λ w. row-counted (a .slots) (a .t1) (l .loop .i) (w .0 .left) (w .1 .left) (w .2 .result) (l .before .before .wide .result) (w .2 .ensures) (l .before .before .wide .ensures)
           ∙ eq-eqb (w .2 .result) 1 (w .3 .left))

@@ -4,10 +4,11 @@ use native.Mathlib.Omega.{arith}
 use borrow.Author.Needs.{needs}
 use borrow.Author.Tests.{eq-eqb, ne-eqb, lt-ltb, le-ltb}
 use lib.ListN.{length, drop}
+use Rattle.lists.specs.Maps.{length-mapped}
 use Rattle.lists.specs.Scans.{allOf}
 use Rattle.slots.specs.Table.{uses}
 use Rattle.slots.specs.Judged.{useKept}
-use Rattle.slots.proofs.Turns.{length-mapped, uses-here, uses-next, uses-end}
+use Rattle.slots.proofs.Turns.{uses-here, uses-next, uses-end}
 use Rattle.slots.proofs.Slots.uses_kept.Statement.{statement}
 use Rattle.slots.proofs.Slots.uses_kept.Tie as tie
 

@@ -4,15 +4,16 @@ use mathlib.Core.Logic.{⊎-elim}
 use native.Mathlib.Omega.{arith}
 use borrow.Author.Needs.{needs}
 use lib.ListN.{length, drop}
+use Rattle.lists.specs.Maps.{length-mapped}
+use Rattle.units.specs.Pages.{numbersOf}
 use Rattle.slots.specs.Table.{times}
-use Rattle.slots.specs.Judged.{listed}
-use Rattle.slots.proofs.Turns.{length-mapped, times-end, times-this, times-past, times-other}
+use Rattle.slots.proofs.Turns.{times-end, times-this, times-past, times-other}
 use Rattle.slots.proofs.judge.times.Statement.{statement}
 use Rattle.slots.proofs.judge.times.Tie as tie
 
 abbrev Inv-loop : tie.InvT-loop
 Inv-loop n page list count₀ i₀ count i =
-    (i ≤ 16) × (count ≤ i) × (times (page .0) (listed n list) ≡ count + times (page .0) (drop i (listed n list)))
+    (i ≤ 16) × (count ≤ i) × (times (page .0) (numbersOf n list) ≡ count + times (page .0) (drop i (numbersOf n list)))
 
 abbrev μ-loop : tie.MeasureT-loop
 μ-loop n page list count₀ i₀ count i = 16 - i
