@@ -69,9 +69,10 @@ module _ (s : State) (ledger base side buffer kinds : List ℕ) (a : Answer) whe
   unfolding reply
   close-allows ledger′ base′ side′ e = e
 
--- one outcome: two results that the contract allows are the same reply, answer, state and every byte
-pub one-outcome : (c : Call) (w : World) (r s : Result) → Allows c w r → Allows c w s → replyOf r ≡ replyOf s
-one-outcome c w r s p q = p ∙ sym q
+-- one outcome: two results that a contract allows, of open or of any other call, are the same reply, answer, state and every
+-- byte
+pub one-outcome : (allowed : Reply) (r s : Result) → replyOf r ≡ allowed → replyOf s ≡ allowed → replyOf r ≡ replyOf s
+one-outcome allowed r s p q = p ∙ sym q
 
 -- a caller that keeps its state on a refusal and one that takes the state handed back go on with the same world
 pub refusal-keeps : (c : Call) (w : World) (r : Result) → Allows c w r → (r .answer .number ≡ 0 → ⊥) → leftBy r ≡ w
