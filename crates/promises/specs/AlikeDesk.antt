@@ -23,7 +23,7 @@ use Rattle.units.specs.declared.Place.{Place}
 use Rattle.units.specs.declared.Settings.{Settings}
 use Rattle.sidefile.specs.Accept.{whole-passes, front-passes}
 use Rattle.sidefile.specs.Encode.{imageSum, named, headerOf, indexOf}
-use Rattle.sidefile.specs.Judge.{holds, wholeTests, frontTests, heldTests}
+use Rattle.sidefile.specs.Judge.{wholeTests, frontTests, heldTests}
 use Rattle.sidefile.specs.Passed.{held-passed}
 use Rattle.sidefile.specs.declared.Header.{Header}
 use Rattle.sidefile.specs.declared.IndexEntry.{IndexEntry}

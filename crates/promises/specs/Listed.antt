@@ -12,7 +12,7 @@ use Rattle.listing.specs.Text.{headLine, entryLines, listing}
 use Rattle.promises.specs.Demand.{AtClose}
 use Rattle.promises.specs.Encoded.{encodes-good}
 use Rattle.promises.specs.Good.{Good}
-use Rattle.promises.specs.Settled.{Settled, settled}
+use Rattle.promises.specs.Settled.{settled}
 use Rattle.promises.specs.Taken.{indexIn, headerIn, side-long}
 
 -- in between, those of the last close
