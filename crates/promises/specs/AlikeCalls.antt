@@ -10,7 +10,7 @@ use native.Mathlib.Omega.{arith}
 use lib.Dec.{eqb, ltb}
 use lib.ListN.{length, set, length-replicate, length-set}
 use borrow.Author.Tests.{ltb-true}
-use Rattle.lists.specs.Bools.{if-then, both}
+use Rattle.lists.specs.Bools.{if-then}
 use Rattle.octets.specs.Part.{lay, length-lay}
 use Rattle.octets.specs.Rows.{page, row-in, length-row}
 use Rattle.units.specs.Refusals as Refusals

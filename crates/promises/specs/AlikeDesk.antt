@@ -1,11 +1,12 @@
--- A desk does not tell two alike worlds apart: over the files of either, a take, a refresh and a read answer the same. And a
--- read does not look behind the index in the buffer that it holds. Assumes nothing.
+-- How far a desk looks: in the side file to the end of the last image place, in the base P times the held e, in the buffer
+-- that it holds to the end of the index. Over slices that begin with the files of a good world as far as that, a take, a
+-- refresh and a read answer what they answer over the files themselves. Assumes nothing.
 use Prim.Native.Nat.{ℕ, _+_, _*_, _<_, _≤_}
 use mathlib.Core.Path.{_≡_, refl, _∙_, sym, ap, subst}
 use mathlib.Core.List.{List, [], _∷_, _++_, map}
 use mathlib.Core.Bool.{true}
 use mathlib.Core.Option.{Option, some, none}
-use native.Mathlib.Nat.{mul-comm, mul-le-mul-right}
+use native.Mathlib.Nat.{mul-comm}
 use native.Mathlib.Omega.{arith}
 use lib.Dec.{eqb, leb}
 use lib.ListN.{length, drop}
@@ -22,7 +23,7 @@ use Rattle.units.specs.declared.Place.{Place}
 use Rattle.units.specs.declared.Settings.{Settings}
 use Rattle.sidefile.specs.Accept.{whole-passes, front-passes}
 use Rattle.sidefile.specs.Encode.{imageSum, named, headerOf, indexOf}
-use Rattle.sidefile.specs.Judge.{holds, wholeTests, frontTests, heldTests}
+use Rattle.sidefile.specs.Judge.{wholeTests, frontTests, heldTests}
 use Rattle.sidefile.specs.Passed.{held-passed}
 use Rattle.sidefile.specs.declared.Header.{Header}
 use Rattle.sidefile.specs.declared.IndexEntry.{IndexEntry}
@@ -30,12 +31,12 @@ use Rattle.recorder.specs.World.{World}
 use Rattle.desk.specs.Read.{refused, spanTests, readTests, heldEntry, located, deskRead}
 use Rattle.desk.specs.Take.{untaken, taken, takeTests, takeReply, sameSettings, withinLag, markOf, marksAfter, refreshTests, refreshReply}
 use Rattle.promises.specs.Agree.{Agree, last, next, agree-same, agree-append, agree-passes, agree-tested}
-use Rattle.promises.specs.Alike.{Lent, Alike, alike-by}
-use Rattle.promises.specs.AlikeGood.{same-index}
+use Rattle.promises.specs.AlikeGood.{index-begins}
 use Rattle.promises.specs.Encoded.{encodes-good}
-use Rattle.promises.specs.Fronts.{front-part}
+use Rattle.promises.specs.Fronts.{Front, front-part, front-long}
 use Rattle.promises.specs.Good.{Good}
-use Rattle.promises.specs.Taken.{Took, indexIn, taken-is, side-header, side-index, side-accepted, front-accepted, held-front, held-header, held-index, held-accepted}
+use Rattle.promises.specs.Lagging.{pages-in}
+use Rattle.promises.specs.Taken.{Took, indexIn, taken-is, side-long, side-header, side-index, side-accepted, front-accepted, held-front, held-header, held-index, held-accepted}
 
 -- Two buffers that have the index of the same world: whatever lies behind it, they read the same.
 
@@ -53,50 +54,49 @@ module _ (w : World) (g : Good w) (held held₁ : List ℕ) (t : Took w held) (t
       ∷ spanTests (h i) base p offset n)))
       refused (located (h i) side base p offset n (heldEntry (x i) p))
 
--- The files of two alike worlds.
+-- A side file that begins as that of a good world.
 
-module _ (w v : World) (g : Good w) (l : Lent w v) where
+module _ (w : World) (g : Good w) (side : List ℕ) (begins : Front (sideLength (w .state .settings)) (w .side) side) where
   abbrev s : Settings
   s = w .state .settings
 
   -- the same header and index
-  took-slices : Took w (v .side)
-  took-slices = sym (same-index w v (g .ruled) l)
+  took-slices : Took w side
+  took-slices = sym (index-begins w (g .ruled) side begins)
 
-  long-slices : sideLength s ≤ length (v .side)
-  unfolding sideLength
-  long-slices = l .lengths .side-long
+  long-slices : sideLength s ≤ length side
+  long-slices = front-long (sideLength s) (w .side) side begins (side-long w g)
 
-  same-header : headerOf (w .side) ≡ headerOf (v .side)
-  same-header = side-header w g ∙ sym (held-header w g (v .side) took-slices)
+  same-header : headerOf (w .side) ≡ headerOf side
+  same-header = side-header w g ∙ sym (held-header w g side took-slices)
 
-  same-entries : indexOf (w .side) ≡ indexOf (v .side)
-  same-entries = side-index w g ∙ sym (held-index w g (v .side) took-slices)
+  same-entries : indexOf (w .side) ≡ indexOf side
+  same-entries = side-index w g ∙ sym (held-index w g side took-slices)
 
-  agree-front : Agree (frontTests (length (w .side)) (w .side)) (frontTests (length (v .side)) (v .side))
+  agree-front : Agree (frontTests (length (w .side)) (w .side)) (frontTests (length side) side)
   agree-front =
-      agree-passes (frontTests (length (w .side)) (w .side)) (frontTests (length (v .side)) (v .side)) (front-accepted w g)
-      (front-passes s (w .state .closed) (g .ending) (indexIn w) (encodes-good w g) (v .side) (held-front w g (v .side) took-slices) (length (v .side)) long-slices)
+      agree-passes (frontTests (length (w .side)) (w .side)) (frontTests (length side) side) (front-accepted w g)
+      (front-passes s (w .state .closed) (g .ending) (indexIn w) (encodes-good w g) side (held-front w g side took-slices) (length side) long-slices)
 
-  agree-whole : Agree (wholeTests (length (w .side)) (w .side)) (wholeTests (length (v .side)) (v .side))
+  agree-whole : Agree (wholeTests (length (w .side)) (w .side)) (wholeTests (length side) side)
   agree-whole =
-      agree-passes (wholeTests (length (w .side)) (w .side)) (wholeTests (length (v .side)) (v .side)) (side-accepted w g)
-      (whole-passes s (w .state .closed) (g .ending) (indexIn w) (encodes-good w g) (v .side) (held-front w g (v .side) took-slices) (length (v .side)) long-slices)
+      agree-passes (wholeTests (length (w .side)) (w .side)) (wholeTests (length side) side) (side-accepted w g)
+      (whole-passes s (w .state .closed) (g .ending) (indexIn w) (encodes-good w g) side (held-front w g side took-slices) (length side) long-slices)
 
-  same-taken : (held : List ℕ) → taken (w .side) held ≡ taken (v .side) held
+  same-taken : (held : List ℕ) → taken (w .side) held ≡ taken side held
   same-taken held =
       taken-is s (w .state .closed) (g .ending) (indexIn w) (encodes-good w g) (w .side) (g .front) held
-      ∙ ap (lay held 0) (same-index w v (g .ruled) l)
-      ∙ sym (taken-is s (w .state .closed) (g .ending) (indexIn w) (encodes-good w g) (v .side) (held-front w g (v .side) took-slices) held)
+      ∙ ap (lay held 0) (index-begins w (g .ruled) side begins)
+      ∙ sym (taken-is s (w .state .closed) (g .ending) (indexIn w) (encodes-good w g) side (held-front w g side took-slices) held)
 
-  take-slices : (held : List ℕ) → takeReply (w .side) held ≡ takeReply (v .side) held
+  pub take-slices : (held : List ℕ) → takeReply (w .side) held ≡ takeReply side held
   unfolding takeReply takeTests
   take-slices held =
       agree-tested (λ x y. x ≡ y) (untaken held []) (untaken held []) _ _ (λ n. refl)
       (agree-append agree-whole (next (ap (λ (h : Header). leb (indexEnd (h .settings)) (length held)) same-header) (λ a. last)))
       (λ a. ap (λ (h : List ℕ). record { number = 0; held = h; marks = [] }) (same-taken held))
 
-  refresh-slices : (held marks : List ℕ) → refreshReply (w .side) held marks ≡ refreshReply (v .side) held marks
+  pub refresh-slices : (held marks : List ℕ) → refreshReply (w .side) held marks ≡ refreshReply side held marks
   unfolding refreshReply refreshTests marksAfter
   refresh-slices held marks =
       agree-tested (λ x y. x ≡ y) (untaken held marks) (untaken held marks) _ _ (λ n. refl)
@@ -112,7 +112,7 @@ module _ (w v : World) (g : Good w) (l : Lent w v) where
         marks = map (markOf (headerOf held .closed) (same-entries i)) (below (same-header i .end)) ++ drop (same-header i .end) marks;
       })
 
--- A read. All that is asked of the held buffer: its e is one that the base can have.
+-- A read. Of the held buffer is asked that its e is one that the base can have; of the base, P times that.
 
 -- an image of a side file that names these settings
 image-fits : (s : Settings) (q : Place) → q .0 < places (named s) → imageAt (named s) q + s .size ≤ sideLength s
@@ -136,7 +136,9 @@ settings-same held t h =
 places-held : (held : List ℕ) → passes (heldTests held) ≡ true → Every (λ x. x .place .0 < places (headerOf held .settings)) (indexOf held)
 places-held held h = held-passed held h .index .placed
 
-module _ (w v : World) (g : Good w) (l : Lent w v) (held : List ℕ) (room : headerOf held .end ≤ w .state .settings .capacity) (p offset n : ℕ) where
+module _ (w : World) (g : Good w) (side : List ℕ) (begins : Front (sideLength (w .state .settings)) (w .side) side)
+    (held : List ℕ) (room : headerOf held .end ≤ w .state .settings .capacity)
+    (base : List ℕ) (pages : Front (w .state .settings .size * headerOf held .end) (w .base) base) (p offset n : ℕ) where
   abbrev hs : Settings
   hs = headerOf held .settings
 
@@ -144,63 +146,55 @@ module _ (w v : World) (g : Good w) (l : Lent w v) (held : List ℕ) (room : hea
   settings-held : sameSettings hs (headerOf (w .side) .settings) ≡ true → hs ≡ named (w .state .settings)
   settings-held h = settings-same held (headerOf (w .side) .settings) h ∙ ap (λ (h : Header). named (h .settings)) (side-header w g)
 
-  pages-held : hs ≡ named (w .state .settings) → hs .size * headerOf held .end ≤ baseLength (w .state .settings)
-  unfolding baseLength
-  pages-held e =
-      omega (
-        arith,
-        ap (λ (t : Settings). t .size * headerOf held .end) e,
-        mul-comm (w .state .settings .size) (headerOf held .end),
-        mul-le-mul-right (w .state .settings .size) room,
-      )
+  same-size : hs ≡ named (w .state .settings) → hs .size ≡ w .state .settings .size
+  same-size = ap (λ (t : Settings). t .size)
 
-  same-room : hs ≡ named (w .state .settings) → leb (hs .size * headerOf held .end) (length (w .base)) ≡ leb (hs .size * headerOf held .end) (length (v .base))
+  pages-held : w .state .settings .size * headerOf held .end ≤ length (w .base)
   unfolding baseLength
+  pages-held = omega (arith, pages-in (w .state .settings) (headerOf held .end) room, g .ruled .lengths .base-long)
+
+  same-room : hs ≡ named (w .state .settings) → leb (hs .size * headerOf held .end) (length (w .base)) ≡ leb (hs .size * headerOf held .end) (length base)
   same-room e =
-      let k = pages-held e in
-      le-leb (hs .size * headerOf held .end) (length (w .base)) (omega (arith, g .ruled .lengths .base-long))
-      ∙ sym (le-leb (hs .size * headerOf held .end) (length (v .base)) (omega (arith, l .lengths .base-long)))
+      let k : hs .size * headerOf held .end ≡ w .state .settings .size * headerOf held .end = ap (λ (t : Settings). t .size * headerOf held .end) e in
+      le-leb (hs .size * headerOf held .end) (length (w .base)) (omega (arith, k, pages-held))
+      ∙ sym (le-leb (hs .size * headerOf held .end) (length base) (omega (arith, k, front-long (w .state .settings .size * headerOf held .end) (w .base) base pages pages-held)))
 
-  agree-read : Agree (readTests held (w .side) (w .base) p offset n) (readTests held (v .side) (v .base) p offset n)
+  agree-read : Agree (readTests held (w .side) (w .base) p offset n) (readTests held side base p offset n)
   unfolding readTests spanTests
   agree-read =
       next refl
-      (λ a. agree-append (agree-front w v g l)
-      (next (ap (λ (h : Header). sameSettings hs (h .settings)) (same-header w v g l))
-      (λ b. next (ap (withinLag (headerOf held)) (same-header w v g l))
+      (λ a. agree-append (agree-front w g side begins)
+      (next (ap (λ (h : Header). sameSettings hs (h .settings)) (same-header w g side begins))
+      (λ b. next (ap (withinLag (headerOf held)) (same-header w g side begins))
       (λ c. next (same-room (settings-held b))
       (λ d. agree-same _)))))
 
   -- where the bytes lie, both have the same
   module _ (e : hs ≡ named (w .state .settings)) (low : p < headerOf held .end) (inside : offset + n ≤ hs .size) where
-    same-size : hs .size ≡ w .state .settings .size
-    same-size = ap (λ (t : Settings). t .size) e
-
-    same-page : part (w .base) (p * hs .size + offset) n ≡ part (v .base) (p * hs .size + offset) n
-    unfolding baseLength
+    same-page : part (w .base) (p * hs .size + offset) n ≡ part base (p * hs .size + offset) n
     same-page =
-        front-part (baseLength (w .state .settings)) (w .base) (v .base) (l .base) (p * hs .size + offset) n
-        (omega (arith, same-size, ap (λ (k : ℕ). p * k) same-size, row-in (w .state .settings .size) p (w .state .settings .capacity) (omega arith)))
+        front-part (w .state .settings .size * headerOf held .end) (w .base) base pages (p * hs .size + offset) n
+        (omega (arith, same-size e, ap (λ (k : ℕ). p * k) (same-size e), row-in (w .state .settings .size) p (headerOf held .end) low, mul-comm (w .state .settings .size) (headerOf held .end)))
 
-    same-image : (q : Place) → q .0 < places hs → (a k : ℕ) → a + k ≤ hs .size → part (w .side) (imageAt hs q + a) k ≡ part (v .side) (imageAt hs q + a) k
+    same-image : (q : Place) → q .0 < places hs → (a k : ℕ) → a + k ≤ hs .size → part (w .side) (imageAt hs q + a) k ≡ part side (imageAt hs q + a) k
     same-image q h a k m =
-        front-part (sideLength (w .state .settings)) (w .side) (v .side) (l .side) (imageAt hs q + a) k
+        front-part (sideLength (w .state .settings)) (w .side) side begins (imageAt hs q + a) k
         (omega (arith, subst (λ (t : Settings). q .0 < places t → imageAt t q + t .size ≤ sideLength (w .state .settings)) (sym e) (image-fits (w .state .settings) q) h))
 
     located-same : (o : Option IndexEntry) → ((x : IndexEntry) → o ≡ some x → x .place .0 < places hs)
-        → located (headerOf held) (w .side) (w .base) p offset n o ≡ located (headerOf held) (v .side) (v .base) p offset n o
+        → located (headerOf held) (w .side) (w .base) p offset n o ≡ located (headerOf held) side base p offset n o
     unfolding located
     located-same none f = λ i. record { number = 0; source = 0; offset = p * hs .size + offset; bytes = same-page i }
     located-same (some x) f =
         let start = imageAt hs (x .place) in
         let z : start + 0 ≡ start = omega arith in
-        let image : part (w .side) start (hs .size) ≡ part (v .side) start (hs .size) = rw z at (same-image (x .place) (f x refl) 0 (hs .size) (omega arith)) in
+        let image : part (w .side) start (hs .size) ≡ part side start (hs .size) = rw z at (same-image (x .place) (f x refl) 0 (hs .size) (omega arith)) in
         let span = same-image (x .place) (f x refl) offset n inside in
         λ i. if-then (eqb (imageSum (x .page) (image i)) (x .sum)) (record { number = 0; source = 1; offset = start + offset; bytes = span i }) (refused Refusals.image)
 
   -- and all that is asked for that passes
   passed-same : passes (readTests held (w .side) (w .base) p offset n) ≡ true
-      → located (headerOf held) (w .side) (w .base) p offset n (heldEntry (indexOf held) p) ≡ located (headerOf held) (v .side) (v .base) p offset n (heldEntry (indexOf held) p)
+      → located (headerOf held) (w .side) (w .base) p offset n (heldEntry (indexOf held) p) ≡ located (headerOf held) side base p offset n (heldEntry (indexOf held) p)
   unfolding readTests spanTests heldEntry
   passed-same h =
       let ts : List Test = (Refusals.damaged, sameSettings hs (headerOf (w .side) .settings)) ∷ (Refusals.lag, withinLag (headerOf held) (headerOf (w .side))) ∷ spanTests (headerOf held) (w .base) p offset n in
@@ -209,37 +203,9 @@ module _ (w v : World) (g : Good w) (l : Lent w v) (held : List ℕ) (room : hea
       located-same (settings-held (head a)) (ltb-true p (headerOf held .end) (head (tail (tail (tail a))))) (leb-true (offset + n) (hs .size) (span .1)) (heldEntry (indexOf held) p)
       (λ x z. first-some (λ y. eqb (y .page .0) p) (indexOf held) x (places-held held (head (passes-every (readTests held (w .side) (w .base) p offset n) h))) z .1)
 
-  desk-slices : deskRead held (w .side) (w .base) p offset n ≡ deskRead held (v .side) (v .base) p offset n
+  pub read-slices : deskRead held (w .side) (w .base) p offset n ≡ deskRead held side base p offset n
   unfolding deskRead
-  desk-slices =
+  read-slices =
       agree-tested (λ x y. x ≡ y) refused refused
-      (located (headerOf held) (w .side) (w .base) p offset n (heldEntry (indexOf held) p)) (located (headerOf held) (v .side) (v .base) p offset n (heldEntry (indexOf held) p))
+      (located (headerOf held) (w .side) (w .base) p offset n (heldEntry (indexOf held) p)) (located (headerOf held) side base p offset n (heldEntry (indexOf held) p))
       (λ k. refl) agree-read passed-same
-
--- Two alike worlds, and a buffer that has the index of one of them.
-
-module _ (w v : World) (g : Good w) (a : Alike w v) where
-  pub took-alike : (held : List ℕ) → Took w held → Took v held
-  took-alike held t = alike-by (λ u. Took u held) w v a (t ∙ same-index w v (g .ruled) (a .lent))
-
-  pub took-back : (held : List ℕ) → Took v held → Took w held
-  took-back held t =
-      alike-by (λ u. Took u held → Took w held) w v a (λ k. k ∙ sym (same-index w v (g .ruled) (a .lent))) t
-
-  pub take-alike : (held : List ℕ) → takeReply (w .side) held ≡ takeReply (v .side) held
-  take-alike = take-slices w v g (a .lent)
-
-  pub refresh-alike : (held marks : List ℕ) → refreshReply (w .side) held marks ≡ refreshReply (v .side) held marks
-  refresh-alike = refresh-slices w v g (a .lent)
-
-  pub desk-alike : (held : List ℕ) → headerOf held .end ≤ w .state .settings .capacity → (p offset n : ℕ)
-      → deskRead held (w .side) (w .base) p offset n ≡ deskRead held (v .side) (v .base) p offset n
-  desk-alike held room p offset n = desk-slices w v g (a .lent) held room p offset n
-
--- One desk took at w₀, another at v₀, into buffers of any lengths; now they read over w and over v.
-pub desks-alike : (w₀ v₀ w v : World) → Good w₀ → Alike w₀ v₀ → Good w → Alike w v → w .state .settings ≡ w₀ .state .settings
-    → (held held₁ : List ℕ) → Took w₀ held → Took v₀ held₁ → (p offset n : ℕ)
-    → deskRead held (w .side) (w .base) p offset n ≡ deskRead held₁ (v .side) (v .base) p offset n
-desks-alike w₀ v₀ w v g₀ a₀ g a same held held₁ t t₁ p offset n =
-    desk-alike w v g a held (omega (arith, ap (λ (h : Header). h .end) (held-header w₀ g₀ held t), ap (λ (s : Settings). s .capacity) same, g₀ .ended, g₀ .ruled .facts .ended)) p offset n
-    ∙ desk-held w₀ g₀ held held₁ t (took-back w₀ v₀ g₀ a₀ held₁ t₁) (v .side) (v .base) p offset n

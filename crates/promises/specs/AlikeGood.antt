@@ -19,8 +19,16 @@ use Rattle.ledger.specs.declared.Entry.{Entry}
 use Rattle.recorder.specs.World.{World, entriesOf, kindOf, baseBytes, imageBytes, slotFor}
 use Rattle.promises.specs.Alike.{withSlices, Lent, Alike, alike-by, same-entries, same-kind, same-base, same-image, same-slot, in-file, ruled-slices}
 use Rattle.recorder.specs.Facts.{Ruled, EntryFacts, seats, within}
-use Rattle.promises.specs.Fronts.{front-part}
+use Rattle.promises.specs.Fronts.{Front, front-part}
 use Rattle.promises.specs.Good.{viewBy, view, hasBy, contents, Good}
+
+-- a side file that begins as that of a world: header and index
+pub index-begins : (w : World) → Ruled w → (side : List ℕ) → Front (sideLength (w .state .settings)) (w .side) side
+    → part (w .side) 0 (indexEnd (w .state .settings)) ≡ part side 0 (indexEnd (w .state .settings))
+unfolding sideLength
+index-begins w r side begins =
+    let s = w .state .settings in
+    front-part (sideLength s) (w .side) side begins 0 (indexEnd s) (omega (arith, firstImage-least s (within w r)))
 
 module _ (w v : World) (r : Ruled w) (l : Lent w v) where
   abbrev twin : World
@@ -43,12 +51,6 @@ module _ (w v : World) (r : Ruled w) (l : Lent w v) where
       go none e = same-base w v r l p (in-file w r p h)
       go (some i) e = same-slot w v r l p i h e
 
-  -- header and index
-  pub same-index : part (w .side) 0 (indexEnd (w .state .settings)) ≡ part (v .side) 0 (indexEnd (w .state .settings))
-  unfolding sideLength
-  same-index =
-      front-part (sideLength (w .state .settings)) (w .side) (v .side) (l .side) 0 (indexEnd (w .state .settings)) (omega (arith, firstImage-least (w .state .settings) (within w r)))
-
 module _ (w v : World) (g : Good w) (l : Lent w v) where
   -- what holds of every entry, with what the state rules say of it
   every-slices : {P Q : Entry → Type 0} → ((e : Entry) → EntryFacts w e → P e → Q e) → Every P (entriesOf w) → Every Q (entriesOf (withSlices w v))
@@ -65,7 +67,7 @@ module _ (w v : World) (g : Good w) (l : Lent w v) where
         two = λ p h. rw (same-kind w v r l p (in-file w r p h)) at (g .two p h);
         ending = g .ending;
         ended = g .ended;
-        front = sym (same-index w v r l) ∙ g .front ∙ ap (λ (es : List Entry). headerFor (w .state .settings) (w .state .closed) (g .ending) (map indexed es) ++ indexBytes (w .state .settings) (map indexed es)) (same-entries w v r l);
+        front = sym (index-begins w r (v .side) (l .side)) ∙ g .front ∙ ap (λ (es : List Entry). headerFor (w .state .settings) (w .state .closed) (g .ending) (map indexed es) ++ indexBytes (w .state .settings) (map indexed es)) (same-entries w v r l);
         early = every-slices (λ e f h. h) (g .early);
         sums = every-slices (λ e f h. ap (imageSum (e .page)) (sym (same-image w v r l (placeOf e) (f .place-below))) ∙ h) (g .sums);
         slots =

@@ -5,7 +5,7 @@ use mathlib.Core.Path.{_≡_, _∙_, sym, ap}
 use mathlib.Core.List.{List, [], _∷_}
 use native.Mathlib.Nat.{zero-add}
 use native.Mathlib.Omega.{arith}
-use lib.ListN.{take, getD, set}
+use lib.ListN.{length, take, getD, set, length-take}
 use lib.Seq.{take-take, getD-take}
 use Rattle.octets.specs.Part.{part, lay, part-part, part-zero, take-lay-in, lay-one}
 use Rattle.octets.specs.Rows.{row, row-in}
@@ -17,6 +17,10 @@ module _ {A : Type 0} where
 module _ {A : Type 0} (n : ℕ) (xs ys : List A) (same : Front n xs ys) where
   pub front-take : (k : ℕ) → k ≤ n → Front k xs ys
   front-take k h = sym (take-take k n xs h) ∙ ap (take k) same ∙ take-take k n ys h
+
+  -- as many are in both
+  pub front-long : n ≤ length xs → n ≤ length ys
+  front-long h = omega (arith, sym (length-take n xs) ∙ ap length same ∙ length-take n ys)
 
   pub front-part : (a k : ℕ) → a + k ≤ n → part xs a k ≡ part ys a k
   front-part a k h = sym (inside xs) ∙ ap (λ (zs : List A). part zs a k) same ∙ inside ys

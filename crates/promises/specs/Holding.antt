@@ -10,7 +10,7 @@ use lib.ListN.{length}
 use borrow.Author.Tests.{leb-true}
 use Rattle.lists.specs.Bools.{if-then}
 use Rattle.octets.specs.Part.{part}
-use Rattle.units.specs.Sizes.{indexEnd}
+use Rattle.units.specs.Sizes.{indexEnd, sideLength}
 use Rattle.units.specs.Refusals as Refusals
 use Rattle.units.specs.Tests.{tested, tested-behind}
 use Rattle.units.specs.declared.Settings.{Settings}
@@ -20,7 +20,9 @@ use Rattle.sidefile.specs.declared.Header.{Header}
 use Rattle.recorder.specs.World.{World}
 use Rattle.recorder.specs.Runs.{Call, run, reply, Recording, opening, reached}
 use Rattle.desk.specs.Take.{Taken, untaken, heldLength, taken, takeTests, takeReply, refreshReply}
-use Rattle.promises.specs.Demand.{later, HoldsIndex}
+use Rattle.promises.specs.AlikeDesk.{take-slices}
+use Rattle.promises.specs.Demand.{later, HoldsIndex, SideNow}
+use Rattle.promises.specs.Fronts.{Front}
 use Rattle.promises.specs.Good.{Good}
 use Rattle.promises.specs.Reached.{good-reply, good-run, good-reached, tick-reply, tick-run, side-reply, settings-run, settings-reached}
 use Rattle.promises.specs.Refreshed.{refresh-is-take}
@@ -56,16 +58,29 @@ took-accepted w g held a = took-take w g held (go (leb (heldLength (w .side)) (l
         omega (arith, n, leb-true (heldLength (w .side)) (length held) e)
     go false e = absurd (omega (arith, number, ap (λ (c : Bool). (if-then c last (untaken held [] Refusals.short)) .number) e))
 
-module _ (r : Recording) (h : opening r .number ≡ 0) (more : List Call) (same : later r more .state .closed .0 ≡ reached r .state .closed .0) where
-  pub take-holds : (held : List ℕ) → takeReply (later r more .side) held .number ≡ 0 → HoldsIndex r (takeReply (later r more .side) held .held)
+-- a desk that is lent the side file then, as far as a desk looks
+module _ (r : Recording) (h : opening r .number ≡ 0) (more : List Call) (same : later r more .state .closed .0 ≡ reached r .state .closed .0)
+    (side : List ℕ) (s : SideNow r (later r more) side) where
+  abbrev w : World
+  w = later r more
+
+  good : Good w
+  good = good-run more (reached r) (good-reached r h)
+
+  settings : w .state .settings ≡ r .settings
+  settings = settings-run more (reached r) (good-reached r h) ∙ settings-reached r h
+
+  same-take : (held : List ℕ) → takeReply (w .side) held ≡ takeReply side held
+  same-take = take-slices w good side (subst (λ (t : Settings). Front (sideLength t) (w .side) side) (sym settings) (sym s))
+
+  pub take-holds : (held : List ℕ) → takeReply side held .number ≡ 0 → HoldsIndex r (takeReply side held .held)
   take-holds held a =
-      let w = later r more in
-      let g = good-run more (reached r) (good-reached r h) in
-      let s : w .state .settings ≡ r .settings = settings-run more (reached r) (good-reached r h) ∙ settings-reached r h in
-      subst (λ (t : Settings). part (takeReply (w .side) held .held) 0 (indexEnd t) ≡ part (w .side) 0 (indexEnd t)) s (took-accepted w g held a)
+      ap (λ (x : Taken). part (x .held) 0 (indexEnd (r .settings))) (sym (same-take held))
+      ∙ subst (λ (t : Settings). part (takeReply (w .side) held .held) 0 (indexEnd t) ≡ part (w .side) 0 (indexEnd t)) settings
+      (took-accepted w good held (ap (λ (x : Taken). x .number) (same-take held) ∙ a))
       ∙ ap (λ (xs : List ℕ). part xs 0 (indexEnd (r .settings))) (side-run more (reached r) (good-reached r h) same)
 
-  pub refresh-holds : (held marks : List ℕ) → refreshReply (later r more .side) held marks .number ≡ 0 → HoldsIndex r (refreshReply (later r more .side) held marks .held)
+  pub refresh-holds : (held marks : List ℕ) → refreshReply side held marks .number ≡ 0 → HoldsIndex r (refreshReply side held marks .held)
   refresh-holds held marks a =
-      let t = refresh-is-take (later r more .side) held marks a in
+      let t = refresh-is-take side held marks a in
       ap (λ (xs : List ℕ). part xs 0 (indexEnd (r .settings))) (t .1) ∙ take-holds held (t .0)

@@ -6,7 +6,7 @@ use mathlib.Core.Bool.{true, _&&_}
 use mathlib.Core.List.{List, [], _∷_}
 use mathlib.Core.Logic.{_⊎_, inl, inr}
 use mathlib.Core.Option.{Option, some, none, Option·map}
-use native.Mathlib.Nat.{mul-le-mul, mul-comm, zero-add}
+use native.Mathlib.Nat.{mul-le-mul-right, mul-comm, zero-add}
 use native.Mathlib.Omega.{arith}
 use lib.Dec.{eqb, ltb, leb}
 use lib.ListN.{length}
@@ -16,7 +16,7 @@ use Rattle.lists.specs.Scans.{first-none, first-any}
 use Rattle.octets.specs.Part.{part, part-part}
 use Rattle.octets.specs.Rows.{row, page}
 use Rattle.units.specs.Refusals as Refusals
-use Rattle.units.specs.Sizes.{wait, entries, indexEnd, firstImage, imageAt}
+use Rattle.units.specs.Sizes.{wait, entries, indexEnd, firstImage, imageAt, baseLength}
 use Rattle.units.specs.Tests.{Test, passes, tested, tested-behind, tested-same}
 use Rattle.units.specs.declared.Settings.{Settings}
 use Rattle.units.specs.declared.Tick.{Tick}
@@ -40,6 +40,11 @@ deskIn held w p offset n = deskRead held (w .side) (w .base) p offset n
 
 abbrev pub InLag : World → World → Type 0
 InLag w₀ w = w .state .closed .0 ≤ w₀ .state .closed .0 + w₀ .state .settings .lag
+
+-- a base has room for P times any e that it can have
+pub pages-in : (s : Settings) (end : ℕ) → end ≤ s .capacity → s .size * end ≤ baseLength s
+unfolding baseLength
+pages-in s end h = omega (arith, mul-comm (s .size) end, mul-le-mul-right (s .size) h)
 
 -- a side file of the same settings, closed within the lag, is read
 pub same-settings : (s t : Settings) → t ≡ s → sameSettings (named s) (named t) ≡ true
@@ -159,14 +164,10 @@ module _ (w₀ w : World) (g₀ : Good w₀) (g : Good w) (same : w .state .sett
   -- with a base of the same length: 3, 11, 12, 13 and 2 are passed, 4 and 6 are left
   module _ (lengths : length (w .base) ≡ length (w₀ .base)) where
     base-long : pageSize w₀ * g₀ .ending ≤ length (w .base)
+    unfolding baseLength
     base-long =
         let few : g₀ .ending ≤ w₀ .state .settings .capacity = omega (arith, g₀ .ended, g₀ .ruled .facts .ended) in
-        omega (
-          arith,
-          mul-le-mul {m₁ = pageSize w₀} {m₂ = pageSize w₀} few (omega arith),
-          mul-comm (g₀ .ending) (pageSize w₀),
-          g₀ .ruled .lengths .base-long,
-        )
+        omega (arith, pages-in (w₀ .state .settings) (g₀ .ending) few, g₀ .ruled .lengths .base-long)
 
     pub reads : (p offset n : ℕ)
         → deskIn held w p offset n ≡ tested (pageTests (pageSize w₀) (g₀ .ending) p offset n) refused (answer w₀ w p offset n)

@@ -28,9 +28,11 @@ pub mod Held
 pub mod Holding
 pub mod KeptSelf
 pub mod Lagging
+pub mod Listed
 pub mod Longer
 pub mod NeverBroken
 pub mod Nexts
+pub mod OneOutcome
 pub mod Opened
 pub mod Performed
 pub mod Puts

@@ -14,7 +14,7 @@ use Rattle.recorder.specs.Runs.{Call, read, write, grow, close, reply, run, Rec
 use Rattle.recorder.specs.declared.Answer.{Answer}
 use Rattle.recorder.specs.declared.State.{State}
 use Rattle.desk.specs.Read as Desk
-use Rattle.promises.specs.Demand.{AtClose, SameUpToClose, WithinLag, HoldsIndex, RawThen, BytesThen, later}
+use Rattle.promises.specs.Demand.{AtClose, SameUpToClose, WithinLag, HoldsIndex, SideNow, BaseNow, RawThen, BytesThen, later}
 use Rattle.promises.specs.Demanded.{same-answers, held-then}
 use Rattle.promises.specs.Refused.{refused-same}
 
@@ -112,29 +112,37 @@ lags r more w v m q h =
     (subst (λ (x : World). v .state .closed .0 ≤ x .state .closed .0 + r .settings .lag) (made-reached r w m) h)
 
 -- Demand 3 of what the code did, its first half: two recordings made alike up to a close, each with what was made after it;
--- the desks answer the same.
+-- desks that are lent the files then, as far as a desk looks, answer the same.
 pub performed-answers : (a b : Recording) → SameUpToClose a b → (w₁ w₂ : World) → Made a w₁ → Made b w₂
     → (ones twos : List Call) (v₁ v₂ : World) → Performed ones w₁ v₁ → Performed twos w₂ v₂
     → v₁ .state .closed .0 ≤ w₁ .state .closed .0 + a .settings .lag → v₂ .state .closed .0 ≤ w₂ .state .closed .0 + b .settings .lag
     → (held₁ held₂ : List ℕ) → HoldsIndex a held₁ → HoldsIndex b held₂
+    → (side₁ side₂ : List ℕ) → SideNow a v₁ side₁ → SideNow b v₂ side₂
+    → (base₁ base₂ : List ℕ) → BaseNow a v₁ base₁ → BaseNow b v₂ base₂
     → (p offset n : ℕ) → (RawThen a p → ⊥)
-    → (x y : Desk.Answer) → x ≡ Desk.deskRead held₁ (v₁ .side) (v₁ .base) p offset n → y ≡ Desk.deskRead held₂ (v₂ .side) (v₂ .base) p offset n
+    → (x y : Desk.Answer) → x ≡ Desk.deskRead held₁ side₁ base₁ p offset n → y ≡ Desk.deskRead held₂ side₂ base₂ p offset n
     → x ≡ y
-performed-answers a b same w₁ w₂ m₁ m₂ ones twos v₁ v₂ p₁ p₂ l₁ l₂ held₁ held₂ t₁ t₂ p offset n raw x y ex ey =
+performed-answers a b same w₁ w₂ m₁ m₂ ones twos v₁ v₂ p₁ p₂ l₁ l₂ held₁ held₂ t₁ t₂ side₁ side₂ s₁ s₂ base₁ base₂ b₁ b₂ p offset n raw x y ex ey =
+    let e₁ = at-later a ones w₁ v₁ m₁ p₁ in
+    let e₂ = at-later b twos w₂ v₂ m₂ p₂ in
     ex
-    ∙ ap (λ (v : World). Desk.deskRead held₁ (v .side) (v .base) p offset n) (at-later a ones w₁ v₁ m₁ p₁)
-    ∙ same-answers a b same ones twos (lags a ones w₁ v₁ m₁ p₁ l₁) (lags b twos w₂ v₂ m₂ p₂ l₂) held₁ held₂ t₁ t₂ p offset n raw
-    ∙ sym (ap (λ (v : World). Desk.deskRead held₂ (v .side) (v .base) p offset n) (at-later b twos w₂ v₂ m₂ p₂))
+    ∙ same-answers a b same ones twos (lags a ones w₁ v₁ m₁ p₁ l₁) (lags b twos w₂ v₂ m₂ p₂ l₂) held₁ held₂ t₁ t₂
+    side₁ side₂ (subst (λ (v : World). SideNow a v side₁) e₁ s₁) (subst (λ (v : World). SideNow b v side₂) e₂ s₂)
+    base₁ base₂ (subst (λ (v : World). BaseNow a v base₁) e₁ b₁) (subst (λ (v : World). BaseNow b v base₂) e₂ b₂)
+    p offset n raw
     ∙ sym ey
 
 -- its second half: the bytes are those that the calls up to the close made of the page
 pub performed-bytes : (r : Recording) → opening r .number ≡ 0 → AtClose r → (w v : World) → Made r w
     → (more : List Call) → Performed more w v → v .state .closed .0 ≤ w .state .closed .0 + r .settings .lag
     → (held : List ℕ) → HoldsIndex r held
+    → (side base : List ℕ) → SideNow r v side → BaseNow r v base
     → (p offset n : ℕ) → p < reached r .state .end → kindOf (reached r) p ≡ 0
-    → (x : Desk.Answer) → x ≡ Desk.deskRead held (v .side) (v .base) p offset n
+    → (x : Desk.Answer) → x ≡ Desk.deskRead held side base p offset n
     → BytesThen r p offset n x
-performed-bytes r h c w v m more q l held t p offset n b k x e =
-    subst (BytesThen r p offset n)
-    (sym (e ∙ ap (λ (z : World). Desk.deskRead held (z .side) (z .base) p offset n) (at-later r more w v m q)))
-    (held-then r h c more (lags r more w v m q l) held t p offset n b k)
+performed-bytes r h c w v m more q l held t side base s d p offset n b k x e =
+    let i = at-later r more w v m q in
+    subst (BytesThen r p offset n) (sym e)
+    (held-then r h c more (lags r more w v m q l) held t side base
+    (subst (λ (u : World). SideNow r u side) i s) (subst (λ (u : World). BaseNow r u base) i d)
+    p offset n b k)

@@ -21,7 +21,7 @@ use Rattle.units.specs.Tests.{passes, tested-passes, passes-append, passes-both
 use Rattle.units.specs.declared.Settings.{Settings}
 use Rattle.units.specs.declared.Tick.{Tick}
 use Rattle.sidefile.specs.Encode.{headerOf, indexOf}
-use Rattle.sidefile.specs.Judge.{ascending, holds, markTests, headerTests, indexTests, wholeTests, heldTests}
+use Rattle.sidefile.specs.Judge.{ascending, markTests, headerTests, indexTests, wholeTests, heldTests}
 use Rattle.sidefile.specs.Passed.{held-passed}
 use Rattle.sidefile.specs.declared.Header.{Header}
 use Rattle.sidefile.specs.declared.IndexEntry.{IndexEntry}

@@ -4,7 +4,7 @@ use Prim.Native.Nat.{ℕ, zero, suc}
 use mathlib.Core.List.{List, [], _∷_, _++_}
 use mathlib.Core.Path.{_≡_}
 use mathlib.Core.Option.{Option, some, none}
-use lib.ListN.{getD, replicate}
+use lib.ListN.{length, getD, replicate}
 use Rattle.lists.specs.Scans.{Every}
 use Rattle.units.specs.Sizes.{sideLength, ledgerLength, bufferLength}
 use Rattle.units.specs.declared.Settings.{Settings}
@@ -17,6 +17,7 @@ use Rattle.recorder.specs.Runs.{Call, read, write, grow, close, reply, run}
 use Rattle.recorder.specs.declared.Counts.{Counts}
 use Rattle.desk.specs.Take.{takeReply}
 use Rattle.desk.specs.Read.{Answer, deskRead}
+use Rattle.listing.specs.Text.{ascii, listing}
 
 -- one fact of a row: what comes out, and what is to come out
 pub record Fact : Type 0 where
@@ -186,3 +187,15 @@ Holds facts = Every (λ f. f .gives ≡ f .wanted) facts
 
 abbrev pub RowsHold : Type 0
 RowsHold = Every Holds table
+
+-- beside the rows, the listing that document 01 shows ("Listing"): what sidelist prints of the side file after close 1
+unfoldable pub prints : World → List ℕ
+prints w = listing (length (w .side)) (w .side)
+
+unfoldable pub rowListing : List Fact
+rowListing =
+    fact (prints (after (example 1))) (ascii "tick 1 end 4 entries 1\n2 0 1\n")
+    ∷ []
+
+abbrev pub ListingHolds : Type 0
+ListingHolds = Holds rowListing

@@ -11,7 +11,7 @@ use native.Mathlib.Decide.{ℕ-discrete, decLt}
 use lib.ListN.{getD}
 use Rattle.lists.specs.Bools.{if-then, not-both, false-of}
 use Rattle.lists.specs.Scans.{anyOf, first-none}
-use Rattle.units.specs.Ages.{tick, leaves-late, leaves}
+use Rattle.units.specs.Ages.{leaves-late, leaves}
 use Rattle.units.specs.Sizes.{top, wait}
 use Rattle.units.specs.declared.Tick.{Tick}
 use Rattle.ledger.specs.Aged.{goes-unchanged}

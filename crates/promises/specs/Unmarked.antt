@@ -14,7 +14,7 @@ use lib.Dec.{ltb}
 use lib.ListN.{length, getD}
 use Rattle.lists.specs.Bools.{if-then, not-both}
 use Rattle.octets.specs.Part.{part}
-use Rattle.units.specs.Sizes.{indexEnd}
+use Rattle.units.specs.Sizes.{indexEnd, sideLength}
 use Rattle.units.specs.declared.Settings.{Settings}
 use Rattle.ledger.specs.Entries.{find}
 use Rattle.ledger.specs.declared.Entry.{Entry}
@@ -23,8 +23,10 @@ use Rattle.recorder.specs.Close.{changedIn}
 use Rattle.recorder.specs.Runs.{Call, Recording, opening, reached, heldBy}
 use Rattle.recorder.specs.World.{World, slotCount, entriesOf, kindOf}
 use Rattle.desk.specs.Take.{Taken, refreshReply}
-use Rattle.promises.specs.Demand.{AtClose, later, WithinLag, HoldsIndex}
+use Rattle.promises.specs.AlikeDesk.{refresh-slices}
+use Rattle.promises.specs.Demand.{AtClose, later, WithinLag, HoldsIndex, SideNow}
 use Rattle.promises.specs.Demanded.{kept-later}
+use Rattle.promises.specs.Fronts.{Front}
 use Rattle.promises.specs.Good.{Kept, contents}
 use Rattle.promises.specs.Held.{held-contents}
 use Rattle.promises.specs.KeptSelf.{kept-self}
@@ -39,25 +41,23 @@ use Rattle.promises.specs.Taken.{Took}
 abbrev pub further : Recording → List Call → Recording
 further r more = record { settings = r .settings; end = r .end; tick = r .tick; lent = r .lent; calls = r .calls ++ more }
 
--- a refresh after them, and the mark of page p then
-abbrev pub refreshed : Recording → List Call → List ℕ → List ℕ → Taken
-refreshed r more held marks = refreshReply (later r more .side) held marks
+-- the mark of page p in what a refresh leaves
+abbrev pub mark : Taken → ℕ → ℕ
+mark x p = getD (x .marks) p 0
 
-abbrev pub mark : Recording → List Call → List ℕ → List ℕ → ℕ → ℕ
-mark r more held marks p = getD (refreshed r more held marks .marks) p 0
-
-pub record Told (r : Recording) (more : List Call) (held marks : List ℕ) : Type 0 where
+-- what a refresh x after those calls tells
+pub record Told (r : Recording) (more : List Call) (x : Taken) : Type 0 where
   -- the refresh is accepted, and the desk holds the index of the later close then
-  pub accepted : refreshed r more held marks .number ≡ 0
-  pub holds : HoldsIndex (further r more) (refreshed r more held marks .held)
+  pub accepted : x .number ≡ 0
+  pub holds : HoldsIndex (further r more) (x .held)
   -- each page in the file is marked or not
-  pub two : (p : ℕ) → p < later r more .state .end → (mark r more held marks p ≡ 0) ⊎ (mark r more held marks p ≡ 1)
+  pub two : (p : ℕ) → p < later r more .state .end → (mark x p ≡ 0) ⊎ (mark x p ≡ 1)
   -- a metadata page that is not marked held the same bytes at both closes
-  pub unmarked : (p : ℕ) → p < reached r .state .end → kindOf (reached r) p ≡ 0 → mark r more held marks p ≡ 0 → heldBy (further r more) p ≡ heldBy r p
+  pub unmarked : (p : ℕ) → p < reached r .state .end → kindOf (reached r) p ≡ 0 → mark x p ≡ 0 → heldBy (further r more) p ≡ heldBy r p
   -- one that was not in the file at the earlier close is marked
-  pub newer : (p : ℕ) → reached r .state .end ≤ p → p < later r more .state .end → kindOf (later r more) p ≡ 0 → mark r more held marks p ≡ 1
+  pub newer : (p : ℕ) → reached r .state .end ≤ p → p < later r more .state .end → kindOf (later r more) p ≡ 0 → mark x p ≡ 1
   -- a marked page has an entry whose last change is after the held tick
-  pub marked : (p : ℕ) → p < later r more .state .end → mark r more held marks p ≡ 1
+  pub marked : (p : ℕ) → p < later r more .state .end → mark x p ≡ 1
       → (e : Entry) × (find p (entriesOf (later r more)) ≡ some e) × (reached r .state .closed .0 < e .changed .0)
 
 abbrev pub RefreshTells : Type 0
@@ -66,7 +66,8 @@ RefreshTells =
     → (more : List Call) → AtClose (further r more) → WithinLag r more
     → (held : List ℕ) → HoldsIndex r held
     → (marks : List ℕ) → later r more .state .end ≤ length marks
-    → Told r more held marks
+    → (side : List ℕ) → SideNow r (later r more) side
+    → Told r more (refreshReply side held marks)
 
 -- The proof.
 
@@ -86,6 +87,9 @@ module _ (r : Recording) (h : opening r .number ≡ 0) (c : AtClose r) (more : L
 
   abbrev w : World
   w = later r more
+
+  abbrev x : Taken
+  x = refreshReply (w .side) held marks
 
   then : Settled w₀
   then = settled r h c
@@ -110,22 +114,22 @@ module _ (r : Recording) (h : opening r .number ≡ 0) (c : AtClose r) (more : L
   below p b = omega (arith, now .whole)
 
   -- a metadata page has an entry that tells a later change, or held the same bytes: at a close no page is changed
-  marked-or-same : (p : ℕ) → p < w .state .end → kindOf w p ≡ 0 → (mark r more held marks p ≡ 1) ⊎ ((p < w₀ .state .end) × (contents w p ≡ contents w₀ p))
+  marked-or-same : (p : ℕ) → p < w .state .end → kindOf w p ≡ 0 → (mark x p ≡ 1) ⊎ ((p < w₀ .state .end) × (contents w p ≡ contents w₀ p))
   unfolding changedIn
   marked-or-same p b m = go (since-run w₀ (then .good) more w₀ (then .good) (kept-self w₀) (since-self w₀) near p b m)
     where
-      go : Since w₀ p w → (mark r more held marks p ≡ 1) ⊎ ((p < w₀ .state .end) × (contents w p ≡ contents w₀ p))
+      go : Since w₀ p w → (mark x p ≡ 1) ⊎ ((p < w₀ .state .end) × (contents w p ≡ contents w₀ p))
       go (same a e) = inr (a, e)
       go (changing f) = absurd (not-both (changedIn w p) f (changed-not (slotCount w) (w .state .slots) p (λ j k e. now .still j k)))
       go (noted e f k) = inl (one-mark w₀ w (then .good) (now .good) (kept .same) (kept .since) near held took marks long p e f k)
 
-  holds-then : HoldsIndex (further r more) (refreshed r more held marks .held)
+  holds-then : HoldsIndex (further r more) (x .held)
   holds-then =
-      subst (λ (s : Settings). part (refreshed r more held marks .held) 0 (indexEnd s) ≡ part (w .side) 0 (indexEnd s)) (kept .same ∙ settings-reached r h)
+      subst (λ (s : Settings). part (x .held) 0 (indexEnd s) ≡ part (w .side) 0 (indexEnd s)) (kept .same ∙ settings-reached r h)
       (took-refresh w₀ w (then .good) (now .good) (kept .same) (kept .since) near held took marks long)
       ∙ ap (λ (v : World). part (v .side) 0 (indexEnd (r .settings))) (sym (reached-further r more))
 
-  two-marks : (p : ℕ) → p < w .state .end → (mark r more held marks p ≡ 0) ⊎ (mark r more held marks p ≡ 1)
+  two-marks : (p : ℕ) → p < w .state .end → (mark x p ≡ 0) ⊎ (mark x p ≡ 1)
   two-marks p b =
       subst (λ (n : ℕ). (n ≡ 0) ⊎ (n ≡ 1)) (sym (mark-at w₀ w (then .good) (now .good) (kept .same) (kept .since) near held took marks long p (below p b)))
       (by-entry (find p (entriesOf w)))
@@ -144,7 +148,7 @@ module _ (r : Recording) (h : opening r .number ≡ 0) (c : AtClose r) (more : L
       subst (λ (v : World). p < v .state .end → kindOf v p ≡ 0 → heldBy (further r more) p ≡ contents v p) (reached-further r more)
       (held-contents (further r more) (opening-further r more h) p)
 
-  same-bytes : (p : ℕ) → p < w₀ .state .end → kindOf w₀ p ≡ 0 → mark r more held marks p ≡ 0 → heldBy (further r more) p ≡ heldBy r p
+  same-bytes : (p : ℕ) → p < w₀ .state .end → kindOf w₀ p ≡ 0 → mark x p ≡ 0 → heldBy (further r more) p ≡ heldBy r p
   same-bytes p b m z = go (marked-or-same p b′ m′)
     where
       b′ : p < w .state .end
@@ -153,21 +157,21 @@ module _ (r : Recording) (h : opening r .number ≡ 0) (c : AtClose r) (more : L
       m′ : kindOf w p ≡ 0
       m′ = kept .kinds p b ∙ m
 
-      go : (mark r more held marks p ≡ 1) ⊎ ((p < w₀ .state .end) × (contents w p ≡ contents w₀ p)) → heldBy (further r more) p ≡ heldBy r p
+      go : (mark x p ≡ 1) ⊎ ((p < w₀ .state .end) × (contents w p ≡ contents w₀ p)) → heldBy (further r more) p ≡ heldBy r p
       go (inl k) = absurd (omega arith)
       go (inr e) = held-now p b′ m′ ∙ e .1 ∙ sym (held-contents r h p b m)
 
-  new-marked : (p : ℕ) → w₀ .state .end ≤ p → p < w .state .end → kindOf w p ≡ 0 → mark r more held marks p ≡ 1
+  new-marked : (p : ℕ) → w₀ .state .end ≤ p → p < w .state .end → kindOf w p ≡ 0 → mark x p ≡ 1
   new-marked p a b m = go (marked-or-same p b m)
     where
-      go : (mark r more held marks p ≡ 1) ⊎ ((p < w₀ .state .end) × (contents w p ≡ contents w₀ p)) → mark r more held marks p ≡ 1
+      go : (mark x p ≡ 1) ⊎ ((p < w₀ .state .end) × (contents w p ≡ contents w₀ p)) → mark x p ≡ 1
       go (inl k) = k
       go (inr e) = absurd (omega (arith, e .0))
 
-  told : Told r more held marks
+  told : Told r more x
   told =
       record {
-        accepted = ap (λ (x : Taken). x .number) (refreshes w₀ w (then .good) (now .good) (kept .same) (kept .since) near held took marks long);
+        accepted = ap (λ (y : Taken). y .number) (refreshes w₀ w (then .good) (now .good) (kept .same) (kept .since) near held took marks long);
         holds = holds-then;
         two = two-marks;
         unmarked = same-bytes;
@@ -175,5 +179,11 @@ module _ (r : Recording) (h : opening r .number ≡ 0) (c : AtClose r) (more : L
         marked = λ p b. mark-one w₀ w (then .good) (now .good) (kept .same) (kept .since) near held took marks long p (below p b);
       }
 
+  -- a desk that is lent the side file as far as a desk looks is told the same
+  told-lent : (side : List ℕ) → SideNow r w side → Told r more (refreshReply side held marks)
+  told-lent side s =
+      let e : w .state .settings ≡ r .settings = kept .same ∙ settings-reached r h in
+      subst (Told r more) (refresh-slices w (now .good) side (subst (λ (t : Settings). Front (sideLength t) (w .side) side) (sym e) (sym s)) held marks) told
+
 pub refresh-tells : RefreshTells
-refresh-tells r h c more d lag held t marks room = told r h c more d lag held t marks room
+refresh-tells r h c more d lag held t marks room side s = told-lent r h c more d lag held t marks room side s
