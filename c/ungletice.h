@@ -7,11 +7,12 @@
  * it holds. Raw data goes straight to the base.
  *
  * A recorder keeps an ungletice_recording, a desk an ungletice_view: each names the memory that its owner lends to the calls.
- * Nothing is allocated and no file is opened; files are slices too, mapped or read by the caller.
+ * Nothing is allocated, no file is opened, and nothing is kept between two calls but in that memory; files are slices too,
+ * mapped or read by the caller.
  *
- * Every call takes anything it is given and answers 0, or the number of the first test that fails (enum ungletice_refusal). A
- * refused call changes nothing. A longer slice than needed is fine, and what lies behind is neither read nor written. What
- * callers must not do, because no library can refuse it:
+ * Every call takes anything it is given and answers 0, or the number of the first test that fails (enum ungletice_refusal);
+ * below, the numbers of a call stand in the order of its tests. A refused call changes nothing. A longer slice than needed is
+ * fine, and what lies behind is neither read nor written. What callers must not do, because no library can refuse it:
  *   - hand over NULL with a length other than 0 ({NULL, 0} is an empty slice),
  *   - hand over slices that overlap where the call writes one of them,
  *   - run two calls at once where one writes what the other is lent, as a desk and a recorder on the same files: take a lock
@@ -32,6 +33,8 @@
  *         refused = ungletice_recording_close(&trial);
  *     if (refused)
  *         fprintf(stderr, "refused %u: %s\n", (unsigned)refused, ungletice_refusal_text(refused));
+ *
+ * (C++ before C++20 has no such initialisers: there the fields are assigned, trial.ledger = {ledger, sizeof ledger}.)
  *
  * There is no call that ends a recording. To get the last change into the base, close its tick and then up to L more: the base
  * is then whole without the side file. With one close more the index is empty (ungletice_entries answers 0). A recording that
@@ -68,8 +71,8 @@ extern "C" {
 #define UNGLETICE_SIDE_FILE_VERSION 1
 
 /* Lengths in bytes, for P the page size, S the slots and L the maximum lag of the recording: of a desk's held buffer, the side
- * file and the recorder's ledger. The longest serve every recording. ungletice_held_length and its neighbours answer the same
- * from settings. */
+ * file and the recorder's ledger. (The page buffer has S * P, the base E * P, the kind table E.) The longest serve every
+ * recording. ungletice_held_length and its neighbours answer the same from settings. */
 #define UNGLETICE_HELD_LENGTH(S, L) (36 + 16 * ((size_t)(L) + 1) * (S))
 #define UNGLETICE_SIDE_LENGTH(P, S, L) \
     ((UNGLETICE_HELD_LENGTH(S, L) + (size_t)(P) - 1) / (P) * (P) + (2 * (size_t)(L) + 1) * (S) * (P))
@@ -279,8 +282,8 @@ static inline uint32_t ungletice_view_refresh(ungletice_view *view, uint8_t *mar
 static inline uint32_t ungletice_view_read(const ungletice_view *view, uint32_t page, uint32_t offset, uint32_t length,
                                            const uint8_t **bytes);
 
-/* What the view holds, and what the side file says now: tick, e, entries and settings. The view is behind by the difference of
- * the two ticks. The number is 11 or 12 where nothing was taken yet, or the side file cannot be taken. */
+/* What the held buffer says, and what the side file says now: tick, e, entries and settings. The view is behind by the
+ * difference of the two ticks. Only the header is judged, and that the index has room: 0, 11 or 12. */
 static inline ungletice_told ungletice_view_held(const ungletice_view *view);
 static inline ungletice_told ungletice_view_now(const ungletice_view *view);
 
@@ -290,8 +293,8 @@ static inline ungletice_index_entry ungletice_view_entry(const ungletice_view *v
 
 /* Beneath the two structs: each slice as pointer and length */
 
-/* Header and entry i of a side file or a held buffer that may be in any condition. What is judged is the header, and that there
- * is room for the index it asks for: 0, 11 or 12. The index is taken as it is; ungletice_take judges it. */
+/* Header and entry i of a side file or a held buffer in any condition. Only the header is judged, and that there is room for
+ * the index that it asks for: 0, 11 or 12. The entries are as they stand there; take and refresh judge them. */
 ungletice_told ungletice_header_of(const uint8_t *front, size_t front_length);
 ungletice_index_entry ungletice_entry_of(const uint8_t *front, size_t front_length, uint32_t i);
 
