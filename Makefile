@@ -8,6 +8,10 @@
 # make trial    the stored pages of the demo's trial anew (needs HDF5)
 
 CC ?= cc
+# On a machine that is not x86-64: what tools/x86-64 sets, since the library is x86-64 code, and all that links it.
+EMULATED := $(shell tools/x86-64)
+$(foreach setting,$(EMULATED),$(eval export $(setting)))
+
 CFLAGS ?= -O2
 WARN = -std=c11 -Wall -Wextra -Werror
 INCLUDE = -Ic -Ic/programs -Ic/demo
@@ -22,9 +26,13 @@ DESTDIR ?=
 VERSION = $(shell awk '/define UNGLETICE_VERSION_(MAJOR|MINOR)/ { printf "%s%s", dot, $$3; dot = "." }' c/ungletice.h)
 TO = $(DESTDIR)$(PREFIX)
 
-.PHONY: all lib programs demo trial trial-maker test install bench soak mutants c-tests clean FORCE
+.PHONY: all lib programs demo trial trial-maker test install bench soak mutants c-tests x86-64 clean FORCE
 
 all: lib programs
+
+# Says what is missing on a machine that is not x86-64, before anything is built.
+x86-64:
+	@tools/x86-64 true
 
 # The library, the header and the pkg-config file, laid out as they are installed.
 
@@ -50,7 +58,7 @@ target/staticlib/lib%.a: $(SOURCES)
 
 # The programs.
 
-programs: build/bin/sidelist build/bin/deskwatch
+programs: x86-64 build/bin/sidelist build/bin/deskwatch
 
 target/bin/sidelist: $(SOURCES)
 	rt check sidelist
@@ -76,8 +84,10 @@ install: all
 
 DEMO = build/demo/recorder build/demo/desk build/demo/image
 HDF5 = $$(pkg-config --cflags --libs hdf5 2>/dev/null || echo -lhdf5)
+# The trial maker links HDF5 and not the library: it is of the machine.
+trial-maker build/demo/trial_maker: CC := $(if $(EMULATED),cc,$(CC))
 
-demo: $(DEMO) build/bin/deskwatch trial-maker
+demo: x86-64 $(DEMO) build/bin/deskwatch trial-maker
 	@c/demo/demo.sh build/demo build/demo/files
 
 $(DEMO): build/demo/%: c/demo/%.c c/demo/sequence.c c/demo/recording.c c/demo/view.c c/programs/lent.c $(HEADERS) $(LIBS)
@@ -106,7 +116,7 @@ test:
 	@.ci/test
 
 # What c/test/*.sh call is built with them.
-c-tests: $(TESTS) $(DEMO) build/bin/deskwatch
+c-tests: x86-64 $(TESTS) $(DEMO) build/bin/deskwatch
 
 build/c/test_trial: c/demo/sequence.c c/demo/recording.c c/demo/view.c c/programs/lent.c
 
@@ -119,9 +129,15 @@ build/bench/stack: c/bench/stack.c $(HEADERS) $(LIBS)
 	$(COMPILE) $(LIBS) $(LDLIBS) -o $@
 
 # Prints the measurements, and puts them into docs/BENCH.md and docs/bench.svg. A stack that is too deep says so there.
-bench: build/bench/stack target/staticlib/libleaves.a
+# The times of an emulator say nothing: they go into copies in build/bench.
+REPORT = $(if $(EMULATED),build/bench,docs)
+
+bench: x86-64 build/bench/stack target/staticlib/libleaves.a
 	@build/bench/stack >build/bench/stack.txt || [ $$? -eq 1 ]
-	@cd rust && cargo run --offline --release --quiet --bin bench -- ../docs ../build/bench/stack.txt
+	@[ $(REPORT) = docs ] || cp docs/BENCH.md $(REPORT)
+	@cd rust && cargo run --offline --release --quiet --bin bench -- ../$(REPORT) ../build/bench/stack.txt
+	@[ $(REPORT) = docs ] || echo "bench: under an emulator the stacks are as on x86-64, the times and ratios are the emulator's" \
+	    "and say nothing of the code: docs/BENCH.md is as it was, this report is $(REPORT)/BENCH.md"
 
 # Both versions without end, or for SECONDS; Ctrl-C ends it with a summary.
 soak:

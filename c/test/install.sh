@@ -41,9 +41,10 @@ flags=$(pkg-config --define-variable=prefix="$to" --cflags --libs "$to/lib/pkgco
 # shellcheck disable=SC2086 # flags are words
 check "a C program does not build" ${CC:-cc} -std=c11 -Wall -Wextra -Werror "$dir/use.c" $flags ${LDLIBS:-} -o "$dir/use"
 check "a C program does not run" "$dir/use"
-if command -v c++ >/dev/null 2>&1; then
+cxx=${CXX:-c++}
+if command -v "${cxx%% *}" >/dev/null 2>&1; then
     # shellcheck disable=SC2086
-    check "a C++ program does not build" c++ -Wall -Wextra -Werror -x c++ "$dir/use.c" -x none $flags ${LDLIBS:-} -o "$dir/use"
+    check "a C++ program does not build" $cxx -Wall -Wextra -Werror -x c++ "$dir/use.c" -x none $flags ${LDLIBS:-} -o "$dir/use"
     check "a C++ program does not run" "$dir/use"
 fi
 
