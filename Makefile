@@ -19,6 +19,11 @@ LIBS = target/staticlib/libcabi.a
 HEADERS = $(wildcard c/*.h c/*/*.h)
 SOURCES = $(wildcard crates/*/src/*.rt)
 TESTS = $(patsubst c/test/%.c,build/c/%,$(wildcard c/test/test_*.c))
+# The header's own functions are tested as C++ too, where there is a compiler for it.
+ifeq ($(origin CXX),default)
+CXX = c++
+endif
+AS_CXX = $(if $(shell command -v $(CXX) 2>/dev/null),build/c/test_structs_cxx)
 COMPILE = $(CC) $(CFLAGS) $(WARN) $(INCLUDE) $(filter %.c,$^)
 
 PREFIX ?= /usr/local
@@ -90,6 +95,8 @@ trial-maker build/demo/trial_maker: CC := $(if $(EMULATED),cc,$(CC))
 demo: x86-64 $(DEMO) build/bin/deskwatch trial-maker
 	@c/demo/demo.sh build/demo build/demo/files
 
+build/demo/desk: c/demo/picture.c c/demo/load_table.c
+
 $(DEMO): build/demo/%: c/demo/%.c c/demo/sequence.c c/demo/recording.c c/demo/view.c c/programs/lent.c $(HEADERS) $(LIBS)
 	@mkdir -p $(@D)
 	$(COMPILE) $(LIBS) $(LDLIBS) -o $@
@@ -116,13 +123,17 @@ test:
 	@.ci/test
 
 # What c/test/*.sh call is built with them.
-c-tests: x86-64 $(TESTS) $(DEMO) build/bin/deskwatch
+c-tests: x86-64 $(TESTS) $(AS_CXX) $(DEMO) build/bin/deskwatch
 
 build/c/test_trial: c/demo/sequence.c c/demo/recording.c c/demo/view.c c/programs/lent.c
 
 build/c/test_%: c/test/test_%.c $(HEADERS) $(LIBS)
 	@mkdir -p $(@D)
 	$(COMPILE) $(LIBS) $(LDLIBS) -o $@
+
+build/c/test_structs_cxx: c/test/test_structs.c $(HEADERS) $(LIBS)
+	@mkdir -p $(@D)
+	$(CXX) $(CFLAGS) -std=c++17 -Wall -Wextra -Werror $(INCLUDE) -x c++ $< -x none $(LIBS) $(LDLIBS) -o $@
 
 build/bench/stack: c/bench/stack.c $(HEADERS) $(LIBS)
 	@mkdir -p $(@D)

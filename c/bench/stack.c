@@ -139,6 +139,21 @@ SUBJECT(finds_offset)
     number = (uint32_t)ungletice_read_offset(side, SIDE, base, sizeof base, held, HELD, page, offset, (uint32_t)length);
 }
 
+SUBJECT(finds_part)
+{
+    number = ungletice_read_part(side, SIDE, base, sizeof base, held, HELD, page, offset, (uint32_t)length).number;
+}
+
+SUBJECT(tells_header)
+{
+    number = ungletice_header_of(held, HELD).number;
+}
+
+SUBJECT(tells_entry)
+{
+    number = !ungletice_entry_of(held, HELD, ENTRIES - 1).found;
+}
+
 SUBJECT(sums)
 {
     number = ungletice_lookup3(span, length, 0);
@@ -246,7 +261,7 @@ static void recorder(void)
 /* Over the side file that the last close left: an entry of each page below 144, those below 16 with an image. */
 static void desk(void)
 {
-    static void (*const reading[])(void) = {finds, finds_source, finds_offset};
+    static void (*const reading[])(void) = {finds, finds_source, finds_offset, finds_part};
 
     meet("take", takes, 0);
     row("ungletice_take");
@@ -255,9 +270,12 @@ static void desk(void)
     asks(15, P), meet("desk read", finds, 0);
     asks(143, P), meet("desk read", finds, 14);
     asks(145, P), meet("desk read", finds, 0);
-    for (int i = 0; i < 3; i++)
+    for (int i = 0; i < 4; i++)
         asks(15, P), measure(reading[i]);
     row("ungletice_read, companions");
+    meet("header", tells_header, 0);
+    meet("entry", tells_entry, 0);
+    row("header_of, entry_of");
 }
 
 static void small(void)

@@ -43,7 +43,7 @@ static void start(struct recording *recording, const struct sequence *sequence, 
     recording_prepare(recording, sequence->settings);
     create(&recording->base, paths[0], ungletice_base_length(sequence->settings));
     sequence_apply(sequence, 0, recording->base.bytes);
-    memcpy(recording->kinds.bytes, sequence->kinds, end);
+    memcpy(recording->inner.kinds.bytes, sequence->kinds, end);
     create(&recording->side, paths[1], ungletice_side_length(sequence->settings));
     sure("open", recording_open(recording, end, 0));
 }
@@ -65,8 +65,8 @@ static void print_counts(const char *kind, ungletice_counts counts)
 static void report(const struct recording *recording)
 {
     printf("pages     accesses     hits   misses evictions bypasses\n");
-    print_counts("metadata", ungletice_metadata_counts(recording->state));
-    print_counts("raw", ungletice_raw_counts(recording->state));
+    print_counts("metadata", ungletice_metadata_counts(recording->inner.state));
+    print_counts("raw", ungletice_raw_counts(recording->inner.state));
 }
 
 int main(int count, char **words)
@@ -86,7 +86,7 @@ int main(int count, char **words)
         sleep_for(delay);
         play(&recording, &sequence, tick);
     }
-    if (ftruncate(recording.base.file, (off_t)ungletice_end(recording.state) * sequence.settings.size)) {
+    if (ftruncate(recording.base.file, (off_t)ungletice_end(recording.inner.state) * sequence.settings.size)) {
         perror(words[2]);
         return 2;
     }

@@ -1,5 +1,5 @@
-/* recording.h: a recorder that plays a trial. The state and all that is lent with it stand together, and each of the library's
- * calls is made once, under the lock. */
+/* recording.h: a recorder that plays a trial: the library's recording with its memory, its two files, and each call under the
+ * lock. */
 #ifndef RECORDING_H
 #define RECORDING_H
 
@@ -8,16 +8,15 @@
 
 struct recording {
     ungletice_settings settings;
-    ungletice_state state;
-    struct lent base, side;           /* the two files */
-    struct lent ledger, buffer, kinds; /* memory of the recorder */
+    ungletice_recording inner; /* the library's; its memory is the recorder's, its files are these */
+    struct lent base, side;
 };
 
 /* Settings, and memory for what is not a file; ends the program where there is none. */
 void recording_prepare(struct recording *recording, ungletice_settings settings);
 void recording_release(struct recording *recording);
 
-/* Each answers 0 or a number of refusal, and keeps the new state if it was accepted. */
+/* Each answers 0 or a number of refusal. Open lends the files as they are mapped by then. */
 uint32_t recording_open(struct recording *recording, uint32_t end, uint32_t tick);
 uint32_t recording_grow(struct recording *recording, uint32_t kind);
 uint32_t recording_write(struct recording *recording, const struct change *change);

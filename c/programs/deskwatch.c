@@ -6,7 +6,6 @@
  * The files are opened anew at each look, so that a recording which replaces them is followed too. All calls of one look run
  * under one shared lock on the side file. Nothing is written to either file. */
 #define _DEFAULT_SOURCE
-#include "front.h"
 #include "lent.h"
 #include "ungletice.h"
 #include <errno.h>
@@ -22,14 +21,13 @@ enum { ACCEPTED = 0, REFUSED = 1, FAILED = 2 }; /* the exit status */
 struct watch {
     const char *side_path, *base_path;
     struct lent side, base;
+    ungletice_view view;
     int holds;       /* the held buffer is filled */
     uint32_t number; /* the refusal that was said last, 0 once a look was accepted */
     int missing;     /* the errno that was said last, 0 once the files were there */
     uint8_t held[UNGLETICE_LONGEST_HELD];
     uint8_t marks[65535];
 };
-
-#define LENT(slice) (slice).bytes, (slice).length
 
 static volatile sig_atomic_t ended;
 
@@ -50,17 +48,17 @@ static int refuse(struct watch *watch, uint32_t number)
 
 static void print_counts(const struct watch *watch, uint32_t lag)
 {
-    printf("tick %u  lag %u of %u  end %u  entries %u", front_tick(watch->held), lag, front_lag(watch->held),
-           front_end(watch->held), front_entries(watch->held));
+    ungletice_told held = ungletice_view_held(&watch->view);
+    printf("tick %u  lag %u of %u  end %u  entries %u", held.tick, lag, held.settings.lag, held.end, held.entries);
 }
 
 static void print_marks(const struct watch *watch)
 {
-    uint32_t count = 0;
-    for (uint32_t page = 0; page < front_end(watch->held); page++)
+    uint32_t pages = ungletice_view_held(&watch->view).end, count = 0;
+    for (uint32_t page = 0; page < pages; page++)
         count += watch->marks[page];
     printf("  marked %u%s", count, count ? ":" : "");
-    for (uint32_t page = 0; page < front_end(watch->held); page++)
+    for (uint32_t page = 0; page < pages; page++)
         if (watch->marks[page])
             printf(" %u", page);
 }
@@ -68,8 +66,8 @@ static void print_marks(const struct watch *watch)
 /* Reads a whole page, where there is a base: its image may be damaged, or the base too short. */
 static int read_page(const struct watch *watch, uint32_t page)
 {
-    uint32_t refused =
-        ungletice_read(LENT(watch->side), LENT(watch->base), watch->held, sizeof watch->held, page, 0, front_size(watch->held));
+    uint32_t size = ungletice_view_held(&watch->view).settings.size;
+    uint32_t refused = ungletice_view_read(&watch->view, page, 0, size, NULL);
     if (refused)
         printf("page %u refused %u: %s\n", page, refused, ungletice_refusal_text(refused));
     return refused ? REFUSED : ACCEPTED;
@@ -78,8 +76,9 @@ static int read_page(const struct watch *watch, uint32_t page)
 static int read_entries(const struct watch *watch)
 {
     int status = ACCEPTED;
-    for (uint32_t k = 0; watch->base_path && k < front_entries(watch->held); k++)
-        if (read_page(watch, front_page(watch->held, k)))
+    uint32_t entries = watch->base_path ? ungletice_view_held(&watch->view).entries : 0;
+    for (uint32_t i = 0; i < entries; i++)
+        if (read_page(watch, ungletice_view_entry(&watch->view, i).page))
             status = REFUSED;
     return status;
 }
@@ -87,7 +86,8 @@ static int read_entries(const struct watch *watch)
 static int read_marked(const struct watch *watch)
 {
     int status = ACCEPTED;
-    for (uint32_t page = 0; watch->base_path && page < front_end(watch->held); page++)
+    uint32_t pages = watch->base_path ? ungletice_view_held(&watch->view).end : 0;
+    for (uint32_t page = 0; page < pages; page++)
         if (watch->marks[page] && read_page(watch, page))
             status = REFUSED;
     return status;
@@ -95,7 +95,7 @@ static int read_marked(const struct watch *watch)
 
 static int take(struct watch *watch)
 {
-    uint32_t refused = ungletice_take(LENT(watch->side), watch->held, sizeof watch->held);
+    uint32_t refused = ungletice_view_take(&watch->view);
     watch->holds = refused == 0;
     if (refused)
         return refuse(watch, refused);
@@ -108,16 +108,17 @@ static int take(struct watch *watch)
 /* After a refusal the held tick is of no use any more: a take begins anew, at once, and says so if that is refused too. */
 static int refresh(struct watch *watch)
 {
-    uint32_t before = front_tick(watch->held);
-    uint32_t refused = ungletice_refresh(LENT(watch->side), watch->held, sizeof watch->held, watch->marks, sizeof watch->marks);
+    uint32_t before = ungletice_view_held(&watch->view).tick, now;
+    uint32_t refused = ungletice_view_refresh(&watch->view, watch->marks, sizeof watch->marks);
     if (refused) {
         refuse(watch, refused);
         return take(watch);
     }
     watch->number = 0;
-    if (front_tick(watch->held) == before)
+    now = ungletice_view_held(&watch->view).tick;
+    if (now == before)
         return ACCEPTED;
-    print_counts(watch, front_tick(watch->held) - before);
+    print_counts(watch, now - before);
     print_marks(watch);
     putchar('\n');
     return read_marked(watch);
@@ -139,6 +140,8 @@ static int look_at(struct watch *watch)
     if (watch->base_path && (lent_open(&watch->base, watch->base_path) || lent_map(&watch->base)))
         return lack(watch, watch->base_path);
     watch->missing = 0;
+    watch->view.side = lent_slice(&watch->side);
+    watch->view.base = lent_slice(&watch->base);
     return watch->holds ? refresh(watch) : take(watch);
 }
 
@@ -229,5 +232,6 @@ int main(int count, char **words)
         return usage(stderr);
     watch.side_path = words[optind];
     watch.base_path = words[optind + 1]; /* NULL where there is none */
+    watch.view.held = (ungletice_slice){watch.held, sizeof watch.held};
     return once ? look(&watch) : follow(&watch, &span);
 }

@@ -54,6 +54,11 @@ int lent_map(struct lent *lent)
     return map(lent, (size_t)now.st_size, PROT_READ);
 }
 
+ungletice_const_slice lent_slice(const struct lent *lent)
+{
+    return (ungletice_const_slice){lent->bytes, lent->length};
+}
+
 int lent_lock(const struct lent *lent, enum lock lock)
 {
     int refused = 0;

@@ -8,8 +8,7 @@
 #ifndef LENT_H
 #define LENT_H
 
-#include <stddef.h>
-#include <stdint.h>
+#include "ungletice.h"
 
 struct lent {
     int file;
@@ -24,6 +23,8 @@ int lent_open(struct lent *lent, const char *path);                  /* for read
 int lent_create(struct lent *lent, const char *path, size_t length); /* for writing, all zero, mapped */
 int lent_map(struct lent *lent);                                     /* at its present length, for reading; under the lock */
 int lent_lock(const struct lent *lent, enum lock lock);
+
+ungletice_const_slice lent_slice(const struct lent *lent); /* the bytes as a view is lent them */
 
 void lent_sure_lock(const struct lent *lent, enum lock lock); /* or ends the program with a line on standard error */
 void lent_unlock(const struct lent *lent);

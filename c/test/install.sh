@@ -31,9 +31,12 @@ check "the version in the pkg-config file" grep -qE '^Version: [0-9]+\.[0-9]+$' 
 
 cat >"$dir/use.c" <<'END'
 #include <ungletice.h>
+static ungletice_recording recording;
+static ungletice_view view;
 int main(void)
 {
-    return ungletice_lookup3(0, 0, 0) != 0xdeadbeef || ungletice_take(0, 0, 0, 0) != 11 || ungletice_refusal_text(11)[0] == 0;
+    return ungletice_lookup3(0, 0, 0) != 0xdeadbeef || ungletice_recording_close(&recording) != UNGLETICE_REFUSED_STATE
+        || ungletice_view_take(&view) != UNGLETICE_REFUSED_FOREIGN || ungletice_refusal_text(11)[0] == 0;
 }
 END
 flags=$(pkg-config --define-variable=prefix="$to" --cflags --libs "$to/lib/pkgconfig/ungletice.pc" 2>/dev/null)

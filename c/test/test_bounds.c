@@ -29,7 +29,8 @@ static ungletice_settings settings;
 static ungletice_state state;
 static ungletice_answer answer;
 static uint32_t tick, end, page, offset, length, kind;
-static size_t found;
+static size_t found; /* what a call found, the same at both ends */
+static int amiss;    /* its answers do not fit each other */
 static int passed, failed, wrong;
 static sigjmp_buf fault;
 
@@ -145,16 +146,49 @@ static uint32_t refresh_(void)
     return ungletice_refresh(LENT(SIDE), LENT(HELD), LENT(MARKS));
 }
 
-/* The number; where it is 0, the part that the companions name must lie in its slice. */
+/* A desk read in one call and by its companions, which must agree; where it is accepted, the part lies in its slice. */
 static uint32_t desk_(void)
 {
+    ungletice_part part = ungletice_read_part(LENT(SIDE), LENT(BASE), LENT(HELD), page, offset, length);
     uint32_t number = ungletice_read(LENT(SIDE), LENT(BASE), LENT(HELD), page, offset, length);
     uint32_t source = ungletice_read_source(LENT(SIDE), LENT(BASE), LENT(HELD), page, offset, length);
     size_t at = ungletice_read_offset(LENT(SIDE), LENT(BASE), LENT(HELD), page, offset, length);
     size_t room = slices[source ? SIDE : BASE].length;
 
-    found = source > 1 || (number ? source || at : length > room || at > room - length);
+    found = at;
+    amiss = source > 1 || (number ? source || at : length > room || at > room - length) || part.number != number
+            || part.source != source || part.offset != at;
     return number;
+}
+
+static int is_none(ungletice_index_entry entry)
+{
+    return !(entry.found || entry.page || entry.place || entry.changed || entry.sum);
+}
+
+/* What a header and its index tell: entries up to the last, none from then on; zeros where it is refused. */
+static uint32_t tell(int s)
+{
+    ungletice_told told = ungletice_header_of(LENT(s));
+    ungletice_settings with = told.settings;
+
+    found = told.tick;
+    amiss = !is_none(ungletice_entry_of(LENT(s), told.entries)) || !is_none(ungletice_entry_of(LENT(s), 4294967295u));
+    if (told.number)
+        amiss |= told.tick || told.end || told.entries || with.size || with.slots || with.lag || with.capacity;
+    for (uint32_t i = 0; i < told.entries; i++)
+        amiss |= ungletice_entry_of(LENT(s), i).found != 1;
+    return told.number;
+}
+
+static uint32_t tell_side_(void)
+{
+    return tell(SIDE);
+}
+
+static uint32_t tell_held_(void)
+{
+    return tell(HELD);
 }
 
 static uint32_t lookup3_(void)
@@ -179,6 +213,8 @@ static const struct call closing = {"close", close_, RECORDED, BIT(LEDGER) | BIT
 static const struct call taking = {"take", take_, BIT(SIDE) | BIT(HELD), BIT(HELD)};
 static const struct call refreshing = {"refresh", refresh_, BIT(SIDE) | BIT(HELD) | BIT(MARKS), BIT(HELD) | BIT(MARKS)};
 static const struct call finding = {"desk read", desk_, BIT(SIDE) | BIT(BASE) | BIT(HELD), 0};
+static const struct call telling_side = {"header of the side file", tell_side_, BIT(SIDE), 0};
+static const struct call telling_held = {"header of the held buffer", tell_held_, BIT(HELD), 0};
 static const struct call summing = {"lookup3", lookup3_, BIT(SPAN), 0};
 
 static int recorder_call(const struct call *c)
@@ -194,6 +230,7 @@ static uint32_t made(const struct call *c, int back, int writable)
             lend(s, back, writable && (c->writes & BIT(s)));
     answer.state = state;
     found = 0;
+    amiss = 0;
     if (sigsetjmp(fault, 1)) {
         expect(c->name, back ? "a touch of what it may not (back)" : "a touch of what it may not (front)", 1, 0);
         return ANY;
@@ -225,7 +262,7 @@ static void refuses(const struct call *c, const char *what, uint32_t wanted)
             continue;
         expect(c->name, what, number, wanted);
         expect(c->name, "state and bytes after a refusal", same_state(c) && untouched(c), 1);
-        expect(c->name, "what the companions answer", c->make == desk_ ? found : 0, 0);
+        expect(c->name, "what the companions answer", (size_t)amiss, 0);
     }
     count();
 }
@@ -241,7 +278,7 @@ static void accepts(const struct call *c, const char *what)
         if (number == ANY)
             break;
         expect(c->name, what, number, 0);
-        expect(c->name, "what the companions answer", c->make == desk_ ? found : 0, 0);
+        expect(c->name, "what the companions answer", (size_t)amiss, 0);
         for (int s = 0; s < SLICES; s++) {
             if (!(c->writes & BIT(s)) || !slices[s].length)
                 continue;
@@ -461,6 +498,27 @@ static void finds(void)
     slices[BASE].length = whole;
 }
 
+/* Header and index at exact lengths, and shorter: of a side file no more is asked. */
+static void tells_of(const struct call *c, int s)
+{
+    size_t whole = slices[s].length, front = slices[HELD].length;
+
+    accepts(c, "all of it");
+    slices[s].length = front;
+    accepts(c, "header and index");
+    short_of(c, s, 0, 11);
+    short_of(c, s, 35, 11);
+    short_of(c, s, 36, 12);
+    short_of(c, s, front - 1, 12);
+    slices[s].length = whole;
+}
+
+static void tells(void)
+{
+    tells_of(&telling_side, SIDE);
+    tells_of(&telling_held, HELD);
+}
+
 static void accessors(void)
 {
     ungletice_settings got = ungletice_settings_of(state);
@@ -529,13 +587,13 @@ static void any_call(const struct call *c)
     if (number == ANY)
         return;
     expect(c->name, "what a refused call leaves", number == 0 || (same_state(c) && untouched(c)), 1);
-    expect(c->name, "what the companions answer", c->make == desk_ ? found : 0, 0);
+    expect(c->name, "what the companions answer", (size_t)amiss, 0);
 }
 
 static void forges(void)
 {
-    static const struct call *const calls[] = {&opening, &reading, &writing,    &growing, &closing,
-                                               &reading, &taking,  &refreshing, &finding, &finding};
+    static const struct call *const calls[] = {&opening, &reading,    &writing, &growing, &closing,      &reading,
+                                               &taking,  &refreshing, &finding, &finding, &telling_side, &telling_held};
     struct slice sound[SLICES];
     ungletice_state right = state;
     ungletice_settings given = settings;
@@ -553,7 +611,7 @@ static void forges(void)
             int s = (int)(drawn() % SLICES);
             slices[s].length = drawn() % (slices[s].length + 1);
         }
-        any_call(calls[drawn() % 10]);
+        any_call(calls[drawn() % (sizeof calls / sizeof calls[0])]);
         for (int s = 0; s < SLICES; s++) {
             slices[s].length = sound[s].length;
             memcpy(slices[s].kept, slices[s].left, slices[s].length);
@@ -580,11 +638,13 @@ static void all_calls(ungletice_settings given)
     finds();
     refreshes();
     finds();
+    tells();
     grows();
     for (uint32_t i = 0; i < settings.lag; i++) {
         change_pages();
         accepts(&closing, "once more");
     }
+    tells();
     accessors();
     sums();
     slices[SPAN].length = settings.size;

@@ -61,11 +61,6 @@ static int all(const uint8_t *bytes, size_t length, uint8_t value)
     return 1;
 }
 
-static uint32_t get32(const uint8_t *at)
-{
-    return at[0] | (uint32_t)at[1] << 8 | (uint32_t)at[2] << 16 | (uint32_t)at[3] << 24;
-}
-
 static void put32(uint8_t *at, uint32_t v)
 {
     for (int i = 0; i < 4; i++)
@@ -78,17 +73,17 @@ static const char *listing(void)
     static char text[1000];
     uint8_t taken[HELD];
     uint32_t refused = ungletice_take(now.side, sizeof now.side, taken, sizeof taken);
+    ungletice_told told = ungletice_header_of(taken, sizeof taken);
+    ungletice_index_entry entry;
     int at = 0;
 
     if (refused) {
         snprintf(text, sizeof text, "refused %u\n", refused);
         return text;
     }
-    at = snprintf(text, sizeof text, "tick %u end %u entries %u\n", get32(taken + 12), get32(taken + 16), get32(taken + 20));
-    for (uint32_t i = 0; i < get32(taken + 20); i++) {
-        const uint8_t *entry = taken + 36 + 16 * i;
-        at += snprintf(text + at, sizeof text - (size_t)at, "%u %u %u\n", get32(entry), get32(entry + 4), get32(entry + 8));
-    }
+    at = snprintf(text, sizeof text, "tick %u end %u entries %u\n", told.tick, told.end, told.entries);
+    for (uint32_t i = 0; (entry = ungletice_entry_of(taken, sizeof taken, i)).found; i++)
+        at += snprintf(text + at, sizeof text - (size_t)at, "%u %u %u\n", entry.page, entry.place, entry.changed);
     return text;
 }
 
@@ -249,7 +244,7 @@ static void example(int twice)
         expect_counts("a close counts nothing", ungletice_metadata_counts(now.state), hits + misses, hits, misses, 0, 0);
         expect("closed tick", ungletice_closed_tick(now.state), tick);
         expect_text("listing", listing(), (twice ? twice_listed : once_listed)[tick - 1]);
-        expect("entries told", ungletice_entries(now.state), get32(now.side + 20));
+        expect("entries told", ungletice_entries(now.state), ungletice_header_of(now.side, SIDE).entries);
         expect("page 2 in the base", now.base[2 * P], tick < 4 ? 12 : twice ? 72 : 71);
         expect("take", ungletice_take(now.side, SIDE, held[tick], HELD), 0);
         for (uint32_t taken = 0; taken <= tick; taken++)

@@ -4,7 +4,6 @@
  * refused; the base gets each page when it is due, not earlier and not later; and after L more closes the base alone is the last
  * file. For each maximum lag that there is, from the first tick on and up to the largest. Each tick of each run counts as one
  * test. */
-#include "front.h"
 #include "recording.h"
 #include "view.h"
 #include <stdio.h>
@@ -173,7 +172,7 @@ static void compare_base(struct run *run)
         entries += run->owing[page].entered;
     }
     expect("pages of the base", run, other, 0);
-    expect("entries", run, ungletice_entries(run->recording.state), entries);
+    expect("entries", run, ungletice_entries(run->recording.inner.state), entries);
 }
 
 /* The recorder. */
@@ -187,8 +186,8 @@ static void note_close(struct run *run)
     desk->base = run->recording.base;
     desk->side = run->recording.side;
     expect("take", run, view_take(desk), 0);
-    expect("its tick", run, front_tick(desk->held), run->start + run->done);
-    expect("its end", run, front_end(desk->held), sequence_end(run->sequence, run->done));
+    expect("its tick", run, view_held(desk).tick, run->start + run->done);
+    expect("its end", run, view_held(desk).end, sequence_end(run->sequence, run->done));
 }
 
 static void open_run(struct run *run)
@@ -197,7 +196,7 @@ static void open_run(struct run *run)
     sequence_apply(run->sequence, 0, run->now);
     memcpy(run->due, run->now, run->recording.base.length);
     memcpy(run->recording.base.bytes, run->now, run->recording.base.length);
-    memcpy(run->recording.kinds.bytes, run->sequence->kinds, end);
+    memcpy(run->recording.inner.kinds.bytes, run->sequence->kinds, end);
     expect("open", run, recording_open(&run->recording, end, run->start), 0);
     note_close(run);
     read_all(run, "pages after the open");
@@ -244,8 +243,8 @@ static void end_run(struct run *run)
         close_step(run);
     expect("the base alone", run, memcmp(run->recording.base.bytes, run->now, file) != 0, 0);
     close_step(run);
-    expect("entries in the end", run, ungletice_entries(run->recording.state), 0);
-    expect("the last tick", run, ungletice_closed_tick(run->recording.state), last);
+    expect("entries in the end", run, ungletice_entries(run->recording.inner.state), 0);
+    expect("the last tick", run, ungletice_closed_tick(run->recording.inner.state), last);
     if (last == 0xffffffff)
         expect("a close after the largest tick", run, recording_close(&run->recording), 9);
     count_tick();

@@ -1,4 +1,37 @@
-//! The desk's calls.
+//! The desk's calls, and what a side file or a held buffer says.
+
+use crate::Settings;
+
+/// What a desk read answers in one call: the number, the slice (0 base, 1 side) and the offset in it.
+#[repr(C)]
+#[derive(Clone, Copy, PartialEq, Eq, Debug, Default)]
+pub struct Part {
+    pub number: u32,
+    pub source: u32,
+    pub offset: usize,
+}
+
+/// What a header says, or 11 or 12 and zeros.
+#[repr(C)]
+#[derive(Clone, Copy, PartialEq, Eq, Debug, Default)]
+pub struct Told {
+    pub number: u32,
+    pub tick: u32,
+    pub end: u32,
+    pub entries: u32,
+    pub settings: Settings,
+}
+
+/// An entry of the index; zeros where there is none.
+#[repr(C)]
+#[derive(Clone, Copy, PartialEq, Eq, Debug, Default)]
+pub struct EntryTold {
+    pub found: u32,
+    pub page: u32,
+    pub place: u32,
+    pub changed: u32,
+    pub sum: u32,
+}
 
 extern "C" {
     fn ungletice_take(
@@ -48,6 +81,19 @@ extern "C" {
         offset: u32,
         length: u32,
     ) -> usize;
+    fn ungletice_read_part(
+        side: *const u8,
+        side_length: usize,
+        base: *const u8,
+        base_length: usize,
+        held: *const u8,
+        held_length: usize,
+        page: u32,
+        offset: u32,
+        length: u32,
+    ) -> Part;
+    fn ungletice_header_of(front: *const u8, front_length: usize) -> Told;
+    fn ungletice_entry_of(front: *const u8, front_length: usize, i: u32) -> EntryTold;
 }
 
 /// Takes header and index of a side file into the held buffer.
@@ -126,4 +172,41 @@ pub fn desk_read(
         source,
         offset: offset_in,
     }
+}
+
+/// The same in one call.
+pub fn read_part(
+    side: &[u8],
+    base: &[u8],
+    held: &[u8],
+    page: u32,
+    offset: u32,
+    length: u32,
+) -> Part {
+    // SAFETY: as for read_number.
+    unsafe {
+        ungletice_read_part(
+            side.as_ptr(),
+            side.len(),
+            base.as_ptr(),
+            base.len(),
+            held.as_ptr(),
+            held.len(),
+            page,
+            offset,
+            length,
+        )
+    }
+}
+
+/// The header of a side file or a held buffer.
+pub fn header_of(front: &[u8]) -> Told {
+    // SAFETY: as for read_number.
+    unsafe { ungletice_header_of(front.as_ptr(), front.len()) }
+}
+
+/// Entry `i` of its index.
+pub fn entry_of(front: &[u8], i: u32) -> EntryTold {
+    // SAFETY: as for read_number.
+    unsafe { ungletice_entry_of(front.as_ptr(), front.len(), i) }
 }

@@ -4,7 +4,10 @@
 mod desk;
 mod recorder;
 
-pub use desk::{desk_read, read_number, refresh, take, Read};
+pub use desk::{
+    desk_read, entry_of, header_of, read_number, read_part, refresh, take, EntryTold, Part, Read,
+    Told,
+};
 pub use recorder::{
     base_length, buffer_length, close, closed_tick, end, entries, grow, held_length, ledger_length,
     metadata_counts, open, raw_counts, read, settings_of, side_length, write, Answer, Counts,
@@ -12,11 +15,11 @@ pub use recorder::{
 };
 
 extern "C" {
-    fn ungletice_lookup3(bytes: *const u8, length: usize, start: u32) -> u32;
+    fn ungletice_lookup3(bytes: *const u8, bytes_length: usize, start: u32) -> u32;
 }
 
 /// Bob Jenkins' lookup3 `hashlittle` of the bytes.
 pub fn hashlittle(bytes: &[u8], start: u32) -> u32 {
-    // SAFETY: the function reads `length` bytes at the pointer and writes none, and keeps neither.
+    // SAFETY: the function reads `bytes_length` bytes at the pointer and writes none, and keeps neither.
     unsafe { ungletice_lookup3(bytes.as_ptr(), bytes.len(), start) }
 }
