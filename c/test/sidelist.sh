@@ -1,6 +1,7 @@
 #!/bin/sh
-# The built program target/bin/sidelist on side files that c/test/sidefile.c writes: the listing of good ones, and the number
-# that each kind of damage is refused by. The last line is 'N passed, M failed'; the exit status is 0 only where M is 0.
+# The built program target/bin/sidelist on side files that c/test/sidefile.c writes: the listing of good ones, the number that
+# each kind of damage is refused by, and an input that cannot be read. The last line is 'N passed, M failed'; the exit status is
+# 0 only where M is 0.
 cd "$(dirname "$0")/../.." || exit 1
 
 passed=0
@@ -124,5 +125,30 @@ refuses 12 "a spare entry's last byte" byte=163:1
 refuses 12 "its checksum" sum=1
 refuses 12 "a byte under its checksum" late=44:0
 refuses 12 "a full index with its last place used twice" lag=8 slots=16 tick=9 end=144 full byte=2328:129
+
+# An input that cannot be read is no side file: no listing, and one line on standard error.
+unread() { # NAME, of what left $dir/out and $dir/err
+    if [ ! -s "$dir/out" ] && [ "$(wc -l <"$dir/err")" -eq 1 ] && grep -q '^sidelist: standard input: .' "$dir/err"; then
+        passed=$((passed + 1))
+    else
+        wrong "$1: printed '$(head -n 2 "$dir/out")', said '$(head -n 2 "$dir/err")'"
+    fi
+}
+
+target/bin/sidelist </ >"$dir/out" 2>"$dir/err"
+unread "a directory"
+target/bin/sidelist 0>"$dir/in" >"$dir/out" 2>"$dir/err"
+unread "an input open for writing alone"
+# Where an emulator runs the program, descriptor 0 may be the program itself, if it is free.
+if [ "$(uname -m)" = x86_64 ]; then
+    target/bin/sidelist <&- >"$dir/out" 2>"$dir/err"
+    unread "a closed input"
+fi
+
+# A listing that cannot be written is told there too.
+if [ -c /dev/full ]; then
+    target/bin/sidelist <crates/sidelist/stdin >/dev/full 2>"$dir/err"
+    if grep -q '^sidelist: standard output: .' "$dir/err"; then passed=$((passed + 1)); else wrong "a full output"; fi
+fi
 
 finish

@@ -34,7 +34,7 @@ pub fn calls(table: &mut Table, n: u32) {
 
     for (page, what) in [(2 * (n - 1), "with an entry"), (1, "without one")] {
         let pair = lowest(
-            || assert_eq!(proved::read_number(black_box(&side), &base, &ours, page, 0, 64), 0),
+            || assert_eq!(proved::read_part(black_box(&side), &base, &ours, page, 0, 64).number, 0),
             || assert_eq!(plain::desk_read(black_box(&side), &base, &theirs, page, 0, 64).number, 0),
         );
         table.row(GROUP, &format!("desk read, n = {n}, {what}"), "Rust", BOUND, pair);

@@ -85,8 +85,8 @@ fn desk(table: &mut Table) {
     );
     row(table, "take", "", pair);
     let pair = lowest(
-        || assert_eq!(proved::read_number(black_box(&large), &base, &held_large, 1, 0, 64), 0),
-        || assert_eq!(proved::read_number(black_box(&small), &base, &held_small, 1, 0, 64), 0),
+        || assert_eq!(proved::read_part(black_box(&large), &base, &held_large, 1, 0, 64).number, 0),
+        || assert_eq!(proved::read_part(black_box(&small), &base, &held_small, 1, 0, 64).number, 0),
     );
     row(table, "desk read, without an entry", "", pair);
     let pair = lowest(

@@ -26,6 +26,7 @@ mod sidefile;
 mod slots;
 mod span;
 mod state;
+mod told;
 
 pub use call::{Answer, Lent};
 pub use close::close;
@@ -38,3 +39,4 @@ pub use settings::{
 };
 pub use slots::{Slots, EMPTY};
 pub use state::State;
+pub use told::{entry_told, header_told, EntryTold, Told};

@@ -117,39 +117,7 @@ pub fn refresh(side: &[u8], held: &mut [u8], marks: &mut [u8]) -> u32 {
     }
 }
 
-/// What the desk's read and its two companions answer: the number, the slice (0 base, 1 side) and the offset in it.
-pub struct Read {
-    pub number: u32,
-    pub source: u32,
-    pub offset: usize,
-}
-
-/// The number alone, as a desk that has read the page before asks for it.
-pub fn read_number(
-    side: &[u8],
-    base: &[u8],
-    held: &[u8],
-    page: u32,
-    offset: u32,
-    length: u32,
-) -> u32 {
-    // SAFETY: the function reads inside the slices and writes nothing.
-    unsafe {
-        ungletice_read(
-            side.as_ptr(),
-            side.len(),
-            base.as_ptr(),
-            base.len(),
-            held.as_ptr(),
-            held.len(),
-            page,
-            offset,
-            length,
-        )
-    }
-}
-
-/// The read whole, as a desk that shows the page asks for it.
+/// The read by the three calls of document 01: the number, and the two companions.
 pub fn desk_read(
     side: &[u8],
     base: &[u8],
@@ -157,24 +125,20 @@ pub fn desk_read(
     page: u32,
     offset: u32,
     length: u32,
-) -> Read {
+) -> Part {
     let (s, b, h) = (side.as_ptr(), base.as_ptr(), held.as_ptr());
     let (sl, bl, hl) = (side.len(), base.len(), held.len());
-    // SAFETY: as for read_number.
-    let (source, offset_in) = unsafe {
-        (
-            ungletice_read_source(s, sl, b, bl, h, hl, page, offset, length),
-            ungletice_read_offset(s, sl, b, bl, h, hl, page, offset, length),
-        )
-    };
-    Read {
-        number: read_number(side, base, held, page, offset, length),
-        source,
-        offset: offset_in,
+    // SAFETY: the functions read inside the slices and write nothing.
+    unsafe {
+        Part {
+            number: ungletice_read(s, sl, b, bl, h, hl, page, offset, length),
+            source: ungletice_read_source(s, sl, b, bl, h, hl, page, offset, length),
+            offset: ungletice_read_offset(s, sl, b, bl, h, hl, page, offset, length),
+        }
     }
 }
 
-/// The same in one call.
+/// The same in one call, as a program that shows the page makes it.
 pub fn read_part(
     side: &[u8],
     base: &[u8],
@@ -183,7 +147,7 @@ pub fn read_part(
     offset: u32,
     length: u32,
 ) -> Part {
-    // SAFETY: as for read_number.
+    // SAFETY: as for desk_read.
     unsafe {
         ungletice_read_part(
             side.as_ptr(),
@@ -201,12 +165,12 @@ pub fn read_part(
 
 /// The header of a side file or a held buffer.
 pub fn header_of(front: &[u8]) -> Told {
-    // SAFETY: as for read_number.
+    // SAFETY: as for desk_read.
     unsafe { ungletice_header_of(front.as_ptr(), front.len()) }
 }
 
 /// Entry `i` of its index.
 pub fn entry_of(front: &[u8], i: u32) -> EntryTold {
-    // SAFETY: as for read_number.
+    // SAFETY: as for desk_read.
     unsafe { ungletice_entry_of(front.as_ptr(), front.len(), i) }
 }

@@ -4,10 +4,7 @@
 mod desk;
 mod recorder;
 
-pub use desk::{
-    desk_read, entry_of, header_of, read_number, read_part, refresh, take, EntryTold, Part, Read,
-    Told,
-};
+pub use desk::{desk_read, entry_of, header_of, read_part, refresh, take, EntryTold, Part, Told};
 pub use recorder::{
     base_length, buffer_length, close, closed_tick, end, entries, grow, held_length, ledger_length,
     metadata_counts, open, raw_counts, read, settings_of, side_length, write, Answer, Counts,

@@ -1,12 +1,14 @@
 //! Two versions side by side. A script is played on both, call by call; after each call everything is compared: the
-//! answer, the whole state struct, what was handed out, and every byte of the ledger and of the six buffers. The first
-//! difference ends it, so both versions are given the same at every call.
+//! answer, the whole state struct, what was handed out, and every byte of the ledger and of the six buffers; after a desk's
+//! call also what both say of the side file and of the held buffer. The first difference ends it, so both versions are given
+//! the same at every call.
 
 use std::fmt;
 
-use crate::buffers::Name;
+use crate::buffers::{Buffers, Name};
+use crate::fronts;
 use crate::run::{Handed, Machine, Reply, World};
-use crate::script::{self, Item, ScriptError};
+use crate::script::{self, Call, Item, ScriptError};
 use crate::version::{Counts, Settings, Slots, State, Version};
 
 /// A version, and what a difference calls it.
@@ -58,7 +60,8 @@ pub fn compare(two: [Named; 2], text: &str) -> Result<Outcome, ScriptError> {
         let replies = play_on_both(&mut machines, &line.item)
             .map_err(|message| ScriptError { line: line.number, message })?;
         if let (Item::Call(call), Some(replies)) = (&line.item, replies) {
-            if let Some(spot) = first_spot(&replies, &machines) {
+            let spot = first_spot(&replies, &machines).or_else(|| in_fronts(call, &machines));
+            if let Some(spot) = spot {
                 let names = two.map(|named| named.name);
                 let call = call.word();
                 return Ok(Outcome::Different(Difference { line: line.number, call, spot, names }));
@@ -81,7 +84,18 @@ fn first_spot([one, other]: &[Reply; 2], machines: &[Machine; 2]) -> Option<Spot
         .or_else(|| in_worlds(&machines[0].world, &machines[1].world))
 }
 
-fn number(place: &str, one: impl Into<u64>, other: impl Into<u64>) -> Option<Spot> {
+/// What both say of the side file and of the held buffer, which are the same bytes on both.
+fn in_fronts(call: &Call, machines: &[Machine; 2]) -> Option<Spot> {
+    if !matches!(call, Call::Take | Call::Refresh | Call::DeskRead { .. }) {
+        return None;
+    }
+    let desks = [0, 1].map(|i| machines[i].version.desk);
+    let Buffers { side, held, .. } = &machines[0].world.buffers;
+    fronts::first_spot("side", side.lent(), desks)
+        .or_else(|| fronts::first_spot("held", held.lent(), desks))
+}
+
+pub(crate) fn number(place: &str, one: impl Into<u64>, other: impl Into<u64>) -> Option<Spot> {
     let values = [one.into(), other.into()];
     (values[0] != values[1]).then(|| Spot { place: place.to_string(), values })
 }

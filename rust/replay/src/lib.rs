@@ -12,6 +12,7 @@ pub mod compare;
 pub mod coverage;
 pub mod crc;
 pub mod fields;
+mod fronts;
 pub mod generate;
 pub mod judge;
 pub mod layout;

@@ -1,6 +1,8 @@
 //! The version written a second time in plain Rust. Its calls are those of the traits, one to one.
 
-use crate::version::{Answer, DeskCalls, Found, Lent, RecorderCalls, Settings, State};
+use crate::version::{
+    Answer, DeskCalls, EntryTold, Found, Lent, RecorderCalls, Settings, State, Told,
+};
 
 pub struct Plain;
 
@@ -52,5 +54,13 @@ impl DeskCalls for Plain {
         length: u32,
     ) -> Found<'a> {
         plain::desk_read(side, base, held, page, offset, length)
+    }
+
+    fn header(&self, front: &[u8]) -> Told {
+        plain::header_told(front)
+    }
+
+    fn entry(&self, front: &[u8], i: u32) -> EntryTold {
+        plain::entry_told(front, i)
     }
 }

@@ -1,7 +1,7 @@
 //! The proved version, through the C boundary. The library's structs are the plain version's by another name.
 
 use crate::version::{
-    Answer, Counts, DeskCalls, Found, Lent, RecorderCalls, Settings, Slots, State,
+    Answer, Counts, DeskCalls, EntryTold, Found, Lent, RecorderCalls, Settings, Slots, State, Told,
 };
 
 pub struct Proved;
@@ -51,7 +51,8 @@ impl DeskCalls for Proved {
         proved::refresh(side, held, marks)
     }
 
-    /// The bytes are found as a C program finds them: by the slice and the offset that the companions answer.
+    /// The bytes are found as a C program finds them: by the slice and the offset that the call answers. The three calls of
+    /// document 01 must answer the same.
     fn read<'a>(
         &self,
         side: &'a [u8],
@@ -61,7 +62,9 @@ impl DeskCalls for Proved {
         offset: u32,
         length: u32,
     ) -> Found<'a> {
-        let read = proved::desk_read(side, base, held, page, offset, length);
+        let read = proved::read_part(side, base, held, page, offset, length);
+        let three = proved::desk_read(side, base, held, page, offset, length);
+        assert_eq!(read, three, "a read in one call, and the three, of page {page}");
         let from = if read.source == 1 { side } else { base };
         let span = if read.number == 0 { length as usize } else { 0 };
         Found {
@@ -70,6 +73,16 @@ impl DeskCalls for Proved {
             offset: read.offset,
             bytes: &from[read.offset..read.offset + span],
         }
+    }
+
+    fn header(&self, front: &[u8]) -> Told {
+        let proved::Told { number, tick, end, entries, settings } = proved::header_of(front);
+        Told { number, tick, end, entries, settings: settings_of(settings) }
+    }
+
+    fn entry(&self, front: &[u8], i: u32) -> EntryTold {
+        let proved::EntryTold { found, page, place, changed, sum } = proved::entry_of(front, i);
+        EntryTold { found, page, place, changed, sum }
     }
 }
 

@@ -5,7 +5,7 @@
 use crate::on_plain::Plain;
 use crate::on_proved::Proved;
 
-pub use plain::{Answer, Counts, Found, Lent, Settings, Slots, State, EMPTY};
+pub use plain::{Answer, Counts, EntryTold, Found, Lent, Settings, Slots, State, Told, EMPTY};
 
 /// The recorder's five calls. Each takes any input and answers; number 0 is accepted.
 pub trait RecorderCalls {
@@ -23,7 +23,7 @@ pub trait RecorderCalls {
     fn close(&self, state: State, lent: &mut Lent) -> Answer;
 }
 
-/// The desk's three, likewise.
+/// The desk's three, likewise, and what it says of a side file or a held buffer.
 pub trait DeskCalls {
     fn take(&self, side: &[u8], held: &mut [u8]) -> u32;
     fn refresh(&self, side: &[u8], held: &mut [u8], marks: &mut [u8]) -> u32;
@@ -36,6 +36,8 @@ pub trait DeskCalls {
         offset: u32,
         length: u32,
     ) -> Found<'a>;
+    fn header(&self, front: &[u8]) -> Told;
+    fn entry(&self, front: &[u8], i: u32) -> EntryTold;
 }
 
 #[derive(Clone, Copy)]

@@ -8,7 +8,7 @@ use std::sync::atomic::{AtomicUsize, Ordering};
 use common::plain;
 use replay::compare::{compare, Difference, Named, Outcome};
 use replay::version::{
-    Answer, DeskCalls, Found, Lent, RecorderCalls, Settings, State, Version, EMPTY,
+    Answer, DeskCalls, EntryTold, Found, Lent, RecorderCalls, Settings, State, Told, Version, EMPTY,
 };
 
 /// The plain version, but for what a lie makes of an answer. It tells the lie at one of the calls that it fits.
@@ -29,6 +29,9 @@ enum Lie {
     Held(fn(&mut u32, &mut [u8])),
     Marks(fn(&mut [u8])),
     Found(fn(&mut Found)),
+    /// About what a side file or a held buffer says.
+    Header(fn(&mut Told)),
+    Entry(fn(&mut EntryTold)),
 }
 
 type StateLie = fn(&mut State);
@@ -124,6 +127,26 @@ impl DeskCalls for Liar {
             }
         }
         found
+    }
+
+    fn header(&self, front: &[u8]) -> Told {
+        let mut told = plain::header_told(front);
+        if let Lie::Header(lie) = &self.lie {
+            if self.lies_now() {
+                lie(&mut told);
+            }
+        }
+        told
+    }
+
+    fn entry(&self, front: &[u8], i: u32) -> EntryTold {
+        let mut told = plain::entry_told(front, i);
+        if let Lie::Entry(lie) = &self.lie {
+            if self.lies_now() {
+                lie(&mut told);
+            }
+        }
+        told
     }
 }
 
@@ -262,6 +285,33 @@ fn answers_and_lent_bytes_of_the_desk() {
     assert_eq!(place(Lie::Found(|found| found.offset += 1), 0), "offset");
     assert_eq!(place(Lie::Found(|found| found.bytes = b"\xaa\xcc\x19\x20"), 0), "bytes[2]");
     assert_eq!(place(Lie::Found(|found| found.bytes = &found.bytes[..3]), 0), "length of bytes");
+}
+
+/// After the take both buffers have the one header, and two entries: of each two are told, the one behind them and the last.
+#[test]
+fn what_is_said_of_the_side_file_and_the_held_buffer() {
+    for (name, truths) in [("side", 0), ("held", 1)] {
+        let header = |lie| place(Lie::Header(lie), truths);
+        assert_eq!(header(|told| told.number = 12), format!("header of {name}: number"));
+        assert_eq!(header(|told| told.tick += 1), format!("header of {name}: tick"));
+        assert_eq!(header(|told| told.end += 1), format!("header of {name}: end"));
+        assert_eq!(header(|told| told.entries += 1), format!("header of {name}: entries"));
+        assert_eq!(header(|told| told.settings.lag += 1), format!("header of {name}: lag"));
+        assert_eq!(
+            header(|told| told.settings.capacity = 6),
+            format!("header of {name}: capacity")
+        );
+    }
+    for (truths, of) in [(0, "entry 0 of side"), (1, "entry 1 of side"), (4, "entry 0 of held")] {
+        let entry = |lie| place(Lie::Entry(lie), truths);
+        assert_eq!(entry(|told| told.found = 0), format!("{of}: found"));
+        assert_eq!(entry(|told| told.page += 1), format!("{of}: page"));
+        assert_eq!(entry(|told| told.place += 1), format!("{of}: place"));
+        assert_eq!(entry(|told| told.changed += 1), format!("{of}: changed"));
+        assert_eq!(entry(|told| told.sum ^= 1), format!("{of}: sum"));
+    }
+    assert_eq!(place(Lie::Entry(|told| told.found = 1), 2), "entry 2 of side: found");
+    assert_eq!(place(Lie::Entry(|told| told.found = 1), 3), "entry 4294967295 of side: found");
 }
 
 #[test]

@@ -19,3 +19,4 @@ mod rows;
 mod sizes;
 mod slots;
 mod state_rules;
+mod told;

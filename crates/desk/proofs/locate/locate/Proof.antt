@@ -40,7 +40,7 @@ rows c =
 -- the entry was sought
 abbrev Found : tie.After-find → Type 0
 Found c =
-    let a = c .before .before .before .before .before .before .before .before .args in
+    let a = start (c .before .before .before) .args in
     Sought (a .held .now) (a .side .now) (a .base .now) (a .page .0) (a .offset) (a .length) (c .before .before .header-of .result) (c .before .wide .result)
     (c .find .result)
 
