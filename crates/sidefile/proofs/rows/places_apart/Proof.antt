@@ -17,6 +17,13 @@ Inv-loop s at w n most met₀ i₀ met i =
 abbrev μ-loop : tie.MeasureT-loop
 μ-loop s at w n most met₀ i₀ met i = n - i
 
+-- from where a row was read back to the turn of the loop, and from there to the entry
+abbrev turn : tie.After-wide Inv-loop μ-loop → tie.At-loop Inv-loop μ-loop
+turn c = c .before .before .before
+
+abbrev start : tie.At-loop Inv-loop μ-loop → tie.Start Inv-loop μ-loop
+start c = c .before .before
+
 loop-holds : tie.Need-loop-holds Inv-loop μ-loop
 unfolding noneMet
 loop-holds c =
@@ -25,7 +32,7 @@ loop-holds c =
 
 number-requires : tie.Need-number-requires Inv-loop μ-loop
 number-requires c κs =
-    let a = c .before .before .before .args in
+    let a = start (c .before) .args in
     omega (arith, row-in (a .w) (c .before .loop .i) (a .n) (omega arith))
 
 wide-requires : tie.Need-wide-requires Inv-loop μ-loop
@@ -33,8 +40,9 @@ wide-requires c κs = search needs
 
 returns : tie.Need-returns Inv-loop μ-loop
 returns c =
-    let a = c .before .before .before .before .before .before .args in
-    let l = c .before .before .before .before .loop in
+    let t = turn (c .before) in
+    let a = start t .args in
+    let l = t .loop in
     sym (l .inv .2 ∙ fresh-far (a .at) (a .w) (a .n) (a .s .now) (l .i) (omega arith) (a .most) (l .met) (omega arith))
 
 array-read-if2 : tie.Need-array-read-if2 Inv-loop μ-loop
@@ -42,8 +50,9 @@ array-read-if2 c = search needs
 
 returns-2 : tie.Need-returns-2 Inv-loop μ-loop
 returns-2 c =
-    let a = c .before .before .before .before .before .before .before .args in
-    let l = c .before .before .before .before .before .loop in
+    let t = turn (c .before .before) in
+    let a = start t .args in
+    let l = t .loop in
     let e : c .before .before .wide .result ≡ column 1 (row (a .at) (a .w) (l .i) (a .s .now)) = omega arith in
     sym (l .inv .2 ∙ fresh-met (a .at) (a .w) (a .n) (a .s .now) (l .i) (omega arith) (a .most) (l .met) (rw (← e) (c .if2 .taken)))
 
@@ -58,8 +67,9 @@ loop-less c = search needs
 
 loop-again : tie.Need-loop-again Inv-loop μ-loop
 loop-again c =
-    let a = c .before .before .before .before .before .before .before .args in
-    let l = c .before .before .before .before .before .loop in
+    let t = turn (c .before .before) in
+    let a = start t .args in
+    let l = t .loop in
     let e : c .before .before .wide .result ≡ column 1 (row (a .at) (a .w) (l .i) (a .s .now)) = omega arith in (
       search needs,
       simp length-set (l .inv .1),
@@ -70,7 +80,7 @@ loop-again c =
 
 returns-3 : tie.Need-returns-3 Inv-loop μ-loop
 returns-3 c =
-    let a = c .before .before .before .args in
+    let a = start (c .before) .args in
     let l = c .before .loop in
     sym (l .inv .2 ∙ fresh-end (a .at) (a .w) (a .n) (a .s .now) (l .i) (omega arith) (a .most) (l .met))
 
