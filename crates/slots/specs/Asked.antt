@@ -16,6 +16,10 @@ abbrev pub Takes : ℕ → Bool → Slots → Type 0
 Takes i false t = (i < 16) × (t .used < 16)
 Takes i true t = (i < 16) × (t .used ≤ 16) × (times (pageAt t i) (uses t) ≡ 1)
 
+pub takes-low : (i : ℕ) (evicts : Bool) (t : Slots) → Takes i evicts t → i < 16
+takes-low i false t h = h .0
+takes-low i true t h = h .0
+
 -- the table of a seat is the one with the page in it
 module _ (S : ℕ) (mask : ℕ → Bool) (p : ℕ) (t : Slots) (x : Seat) (e : seated S mask p t ≡ some x) where
   pub seat-table : x .table ≡ taken (x .slot) (x .evicts) p t
