@@ -26,14 +26,14 @@ const RAW: u8 = 1;
 
 impl Answer {
     // The call is done, and this is the state from now on.
-    fn accepted(state: State) -> Answer
+    pub fn accepted(state: State) -> Answer
         ensures { λ r. ⌜ r ≡ record { number = 0; state = state } ⌝ }
     {
         Answer { number: 0, state }
     }
 
     // The call is refused, and this is the state that was given.
-    fn refused(number: u32, state: State) -> Answer
+    pub fn refused(number: u32, state: State) -> Answer
         ensures { λ r. ⌜ r ≡ record { number = number; state = state } ⌝ }
     {
         Answer { number, state }
