@@ -20,21 +20,31 @@ use Rattle.recorder.proofs.Carrying.{Summed, Left, Anew, limited, flags
 use Rattle.recorder.proofs.close.carry_out.Statement.{statement}
 use Rattle.recorder.proofs.close.carry_out.Tie as tie
 
--- each call behind the next, and the start behind the first
+-- each call behind what the next one is asked, and the start behind the first; there the ledger is known to be of bytes
+abbrev owned : tie.After-wide → tie.After-slice-known
+owned c = c .before .before .before .before .before .before
+
 abbrev start : tie.After-wide → tie.Start
-start c = c .before .before .before .before .before .before .before
+start c = owned c .before
 
-abbrev settled-behind : tie.After-write-images → tie.After-settle
-settled-behind c = c .before .before .before .before .before
+abbrev settles : tie.After-sums → tie.After-settle
+settles c = c .before .before .before .before
 
-abbrev images : tie.After-put-all → tie.After-write-images
-images c = c .before .before .before .before .before
+abbrev images : tie.After-sums2 → tie.After-write-images
+images c = c .before .before .before .before
 
-abbrev put : tie.After-write-due → tie.After-put-all
-put c = c .before .before .before .before .before
+abbrev puts : tie.After-write-due-arg2 → tie.After-put-all
+puts c = c .before .before .before .before
 
-abbrev due : tie.After-write-front → tie.After-write-due
-due c = c .before .before .before .before .before
+abbrev due : tie.After-write-front-arg2 → tie.After-write-due
+due c = c .before .before .before .before
+
+-- the checksums and the side file once the images are written
+abbrev sums : tie.After-write-images → List ℕ
+sums c = c .write-images .last .1 .1 .1 .1 .1 .1 .1 .0
+
+abbrev imaged : tie.After-write-images → List ℕ
+imaged c = c .write-images .last .1 .1 .1 .0
 
 -- the world that is closed, and the lists of its plan
 abbrev world : tie.Start → World → World
@@ -59,26 +69,28 @@ left c w =
     }
 
 abbrev first : tie.After-write-images → tie.Start
-first c = start (settled-behind c .before)
+first c = start (settles (c .before) .before)
 
 summed : (c : tie.After-write-images) (w : World) → Carries (world (first c) w) (first c .args .tick) (lists (first c))
-    → Summed (world (first c) w) (first c .args .tick) (lists (first c)) (c .write-images .last .1 .1 .1 .1 .1 .1 .1 .0)
+    → Summed (world (first c) w) (first c .args .tick) (lists (first c)) (sums c)
 unfolding Octets
 summed c w k =
     record {
       carries = k;
-      octets = λ i. settled-behind c .before .before .before .before .before .before .before .slice-known .given i .fits;
+      octets = λ i. owned (settles (c .before) .before) .slice-known .given i .fits;
       made = c .write-images .ensures .0;
     }
 
-anew : (c : tie.After-put-all) (w : World) → Carries (world (first (images c)) w) (first (images c) .args .tick) (lists (first (images c)))
-    → Anew (world (first (images c)) w) (first (images c) .args .tick) (lists (first (images c))) (images c .write-images .last .1 .1 .1 .1 .1 .1 .1 .0) (c .put-all .result) (c .put-all .last .0)
-anew c w k = put-anew (summed (images c) w k) (left (settled-behind (images c)) w) _ (c .put-all .ensures .0) _ (c .put-all .ensures .1)
+anew : (c : tie.After-put-all) (w : World) → Carries (world (first (images (c .before))) w) (first (images (c .before)) .args .tick) (lists (first (images (c .before))))
+    → Anew (world (first (images (c .before))) w) (first (images (c .before)) .args .tick) (lists (first (images (c .before)))) (sums (images (c .before))) (c .put-all .result) (c .put-all .last .0)
+anew c w k =
+    let i = images (c .before) in
+    put-anew (summed i w k) (left (settles (i .before)) w) _ (c .put-all .ensures .0) _ (c .put-all .ensures .1)
 
 -- by the world that is known at the start
 known : (c : tie.After-put-all)
-    → Anew (world (first (images c)) (first (images c) .pre .0)) (first (images c) .args .tick) (lists (first (images c))) (images c .write-images .last .1 .1 .1 .1 .1 .1 .1 .0) (c .put-all .result) (c .put-all .last .0)
-known c = anew c (first (images c) .pre .0) (first (images c) .pre .1)
+    → Anew (world (first (images (c .before))) (first (images (c .before)) .pre .0)) (first (images (c .before)) .args .tick) (lists (first (images (c .before)))) (sums (images (c .before))) (c .put-all .result) (c .put-all .last .0)
+known c = anew c (first (images (c .before)) .pre .0) (first (images (c .before)) .pre .1)
 
 wide-requires : tie.Need-wide-requires
 wide-requires c κs = search needs
@@ -91,26 +103,26 @@ settle-requires c κs =
 
 write-images-requires : tie.Need-write-images-requires
 write-images-requires c κs =
-    let k = start (c .before .before .before .before .before) .pre .1 in
+    let k = start (settles c .before) .pre .1 in
     (limited k, k .closes .buffer-long, k .closes .side-long, k .planned .most, places-below k, k .planned .whole-pages, k .planned .whole-places, refl)
 
 put-all-requires : tie.Need-put-all-requires
 put-all-requires c κs =
-    let i = c .before .before .before .before in
-    can-put (summed i (first i .pre .0) (first i .pre .1)) (left (settled-behind i) (first i .pre .0))
+    let i = images c in
+    can-put (summed i (first i .pre .0) (first i .pre .1)) (left (settles (i .before)) (first i .pre .0))
 
 write-due-requires : tie.Need-write-due-requires
 write-due-requires c κs =
-    let r = known (c .before .before .before .before) in
+    let r = known (puts c) in
     let k = r .summed .carries in
     (limited k, long-after r, k .closes .buffer-long, k .closes .base-long, pages-after r)
 
 write-front-requires : tie.Need-write-front-requires
 write-front-requires c κs =
-    let p = put (c .before .before .before .before) in
+    let p = puts (due c .before) in
     let r = known p in
-    let i = images p .write-images in
-    (limited (r .summed .carries), few-after r, long-after r, front-in r (i .last .1 .1 .1 .0) (i .kept .1 .1 .1 .0))
+    let i = images (p .before) in
+    (limited (r .summed .carries), few-after r, long-after r, front-in r (imaged i) (i .write-images .kept .1 .1 .1 .0))
 
 same-length : tie.Need-same-length
 same-length c = search needs
@@ -124,8 +136,9 @@ same-length-3 c = search needs
 returns : tie.Need-returns
 returns c w k =
     let f = c .before .before in
-    let p = put (due f) in
-    carried (anew p w k) _ (due f .write-due .ensures) _ (images p .write-images .ensures .1) _ (f .write-front .ensures)
+    let d = due (f .before) in
+    let p = puts (d .before) in
+    carried (anew p w k) _ (d .write-due .ensures) _ (images (p .before) .write-images .ensures .1) _ (f .write-front .ensures)
 
 pub carry-out-spec : {M : Type 1} → statement M
 carry-out-spec =

@@ -1,5 +1,6 @@
+use Prim.Native.Nat.{ℕ}
 use mathlib.Core.Bool.{true}
-use mathlib.Core.List.{[]}
+use mathlib.Core.List.{List, []}
 use mathlib.Core.Path.{_≡_, refl, _∙_, ap}
 use native.Mathlib.Omega.{arith}
 use borrow.Author.Needs.{needs}
@@ -13,15 +14,28 @@ use Rattle.recorder.proofs.Ending.{early, close-refused, close-passes, 
 use Rattle.recorder.proofs.close.close.Statement.{statement}
 use Rattle.recorder.proofs.close.close.Tie as tie
 
--- the start behind the tests; the tests behind the rest of the close, and this behind both of its ends
+-- the start behind the tests; the tests behind the rest of the close, and this behind its ends
 abbrev start : tie.After-closes → tie.Start
 start c = c .before .before .before .before .before .before .before .before .before
 
 abbrev tested : tie.After-closing-arg3 → tie.Else1
 tested c = c .before .before .before .before .before .before .before
 
-abbrev closing : tie.After-struct-known2 → tie.After-closing
-closing c = c .before .before .before .before .before .before .before
+abbrev closing : tie.After-slice-known6 → tie.After-closing
+closing c = c .before .before .before .before .before .before
+
+abbrev accepted : tie.After-accepted → tie.Else2
+accepted c = c .before .before .before .before .before
+
+-- the slices as the close left them
+abbrev ledger : tie.After-closing → List ℕ
+ledger c = c .closing .last .1 .1 .1 .1 .1 .1 .0
+
+abbrev base : tie.After-closing → List ℕ
+base c = c .closing .last .1 .1 .1 .1 .1 .1 .1 .0
+
+abbrev side : tie.After-closing → List ℕ
+side c = c .closing .last .1 .1 .1 .1 .1 .1 .1 .1 .0
 
 abbrev world : tie.Start → World
 world c = lent (c .args .state) (c .args .ledger .now) (c .args .base .now) (c .args .side .now) (c .args .buffer .now) (c .args .kinds .now)
@@ -33,7 +47,7 @@ may : (c : tie.Else1) → Closes (world (start (c .before))) (openTick (world (s
 may c = can-close (world (start (c .before))) (passed c) _ refl
 
 done : (c : tie.After-closing) → (let w = world (start (tested (c .before) .before)) in
-    Ended (suffices w) w (c .closing .result) (c .closing .last .1 .1 .1 .1 .1 .1 .0) (c .closing .last .1 .1 .1 .1 .1 .1 .1 .0) (c .closing .last .1 .1 .1 .1 .1 .1 .1 .1 .0))
+    Ended (suffices w) w (c .closing .result) (ledger c) (base c) (side c))
 done c = c .closing .ensures (world (start (tested (c .before) .before))) (may (tested (c .before)))
 
 closes-requires : tie.Need-closes-requires
@@ -80,12 +94,11 @@ same-length-6 c = search needs
 
 returns-2 : tie.Need-returns-2
 returns-2 c =
-    let k = closing (c .before .before) in
+    let k = closing (c .before .before .before) in
     let t = tested (k .before) in
     let a = start (t .before) .args in
-    let d = k .closing in
-    ap (λ (x : Answer). answered x (d .last .1 .1 .1 .1 .1 .1 .0) (d .last .1 .1 .1 .1 .1 .1 .1 .0) (d .last .1 .1 .1 .1 .1 .1 .1 .1 .0) (a .buffer .now) (a .kinds .now) []) (c .refused2 .ensures)
-    ∙ ended-refused (world (start (t .before))) (d .result) _ _ _ (passed t) (done k) (c .before .if2 .taken)
+    ap (λ (x : Answer). answered x (ledger k) (base k) (side k) (a .buffer .now) (a .kinds .now) []) (c .refused2 .ensures)
+    ∙ ended-refused (world (start (t .before))) (k .closing .result) (ledger k) (base k) (side k) (passed t) (done k) (c .before .if2 .taken)
 
 unmark-requires : tie.Need-unmark-requires
 unmark-requires c κs = search needs
@@ -104,13 +117,12 @@ same-length-9 c = search needs
 
 returns-3 : tie.Need-returns-3
 returns-3 c =
-    let e = c .before .before .before .before .before in
-    let k = closing (e .before) in
+    let e = accepted c in
+    let k = closing (e .before .before) in
     let t = tested (k .before) in
     let a = start (t .before) .args in
-    let d = k .closing in
-    ap (λ (x : Answer). answered x (d .last .1 .1 .1 .1 .1 .1 .0) (d .last .1 .1 .1 .1 .1 .1 .1 .0) (d .last .1 .1 .1 .1 .1 .1 .1 .1 .0) (a .buffer .now) (a .kinds .now) []) (c .accepted .ensures)
-    ∙ ended-done (world (start (t .before))) (d .result) _ _ _ (passed t) (done k) (e .if2 .left) _ refl _ (c .before .before .before .before .unmark .ensures)
+    ap (λ (x : Answer). answered x (ledger k) (base k) (side k) (a .buffer .now) (a .kinds .now) []) (c .accepted .ensures)
+    ∙ ended-done (world (start (t .before))) (k .closing .result) (ledger k) (base k) (side k) (passed t) (done k) (e .if2 .left) _ refl _ (c .before .before .before .before .unmark .ensures)
 
 pub close-spec : {M : Type 1} → statement M
 close-spec =

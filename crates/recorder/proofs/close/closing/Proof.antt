@@ -20,9 +20,12 @@ use Rattle.recorder.proofs.Planning.{same-suffices, plans-alone, planne
 use Rattle.recorder.proofs.close.closing.Statement.{statement}
 use Rattle.recorder.proofs.close.closing.Tie as tie
 
--- each call behind the next, and the start behind the first
+-- each call behind what comes after it, and the start behind the first
+abbrev begun : tie.After-seats → tie.Start
+begun c = c .before .before .before .before .before
+
 abbrev start : tie.After-list-seats → tie.Start
-start c = c .before .before .before .before .before .before
+start c = begun (c .before)
 
 abbrev seated : tie.After-entered → tie.After-list-seats
 seated c = c .before .before .before .before .before .before .before

@@ -32,6 +32,10 @@ freed c = c .before .before .before .before
 abbrev left : tie.After-staying-arg → tie.After-retiring-rows
 left c = c .before .before .before
 
+-- the bytes of the flags, once they are set
+abbrev going : tie.After-retiring-rows → List ℕ
+going c = c .retiring-rows .last .1 .1 .1 .1 .1 .1 .0
+
 -- the world of the plan; what its rules give, by the world that is known at the start
 abbrev given : tie.Start → World → World
 given s w = let a = s .args in handed (a .settings) (a .end) (a .entries) (pagesOf (a .seats .now)) (a .ledger .now) (flagged (a .changed .now) w)
@@ -67,13 +71,13 @@ retiring-rows-requires c κs =
     (q .rows, q .few, p .changed-pages .ensures .1, p .changed-pages .ensures .0, q .ascends, start n .pre .0 .0, start n .pre .0 .3)
 
 -- the flags are as many as they were
-bytes : (c : tie.After-retiring-rows) → length (c .retiring-rows .last .1 .1 .1 .1 .1 .1 .0) ≡ length (start (counted (listed (freed (c .before)))) .args .going .now)
+bytes : (c : tie.After-retiring-rows) → length (going c) ≡ length (start (counted (listed (freed (c .before)))) .args .going .now)
 bytes c = c .retiring-rows .kept .1 .1 .1 .1 .1 .1 .0
 
 staying-requires : tie.Need-staying-requires
 staying-requires c κs =
     let n = counted (listed (freed (left c .before))) in
-    omega (arith, ruled n .few, going-bytes (start n .args .going .now) (left c .retiring-rows .last .1 .1 .1 .1 .1 .1 .0) (start n .pre .0 .0) (bytes (left c)))
+    omega (arith, ruled n .few, going-bytes (start n .args .going .now) (going (left c)) (start n .pre .0 .0) (bytes (left c)))
 
 add-later : tie.Need-add-later
 add-later c = search needs
@@ -90,7 +94,7 @@ lists c =
       pages = listed f .changed-pages .last .1 .1 .1 .1 .0;
       places = f .free-places .last .1 .1 .1 .1 .1 .0;
       entered = c .retiring-rows .last .1 .1 .1 .1 .1 .1 .1 .0;
-      going = flags (c .retiring-rows .last .1 .1 .1 .1 .1 .1 .0);
+      going = flags (going c);
     }
 
 -- the plan, by its answer whether there is enough
@@ -120,7 +124,7 @@ made c w enough e =
       stays = c .staying .ensures .0;
       whole-pages = p .changed-pages .ensures .1;
       whole-places = f .free-places .ensures .2;
-      whole-going = going-whole (s .args .going .now) (r .retiring-rows .last .1 .1 .1 .1 .1 .1 .0) (s .pre .0 .0) (bytes r);
+      whole-going = going-whole (s .args .going .now) (going r) (s .pre .0 .0) (bytes r);
     })
     enough e
 
