@@ -1,20 +1,20 @@
 -- Flags of rows, set one after the other: what one turn of a loop does. Assumes nothing.
-use Prim.Native.Nat.{ℕ, _+_, _<_, _≤_}
-use mathlib.Core.Path.{_≡_, _∙_, sym}
-use mathlib.Core.Bool.{Bool, true, _||_}
-use mathlib.Core.List.{List, [], _∷_, _++_, map}
+use Prim.Native.Nat.{ℕ, suc, _+_, _-_, _*_, _<_, _≤_}
+use mathlib.Core.Path.{_≡_, _∙_, sym, ap}
+use mathlib.Core.Bool.{Bool, true, false, _||_}
+use mathlib.Core.List.{List, [], _∷_, _++_, map, append-assoc}
 use native.Mathlib.Numerals.{add-one}
 use native.Mathlib.Omega.{arith}
 use lib.Dec.{eqb}
-use lib.ListN.{length, take, set, getD, getElem?, length-map, length-take, List·getD-map}
-use lib.Seq.{take-all, take-suc, take-suc-set, take-set-lt, set-out, getD-take, length-take-le}
+use lib.ListN.{length, take, set, getD, getElem?, replicate, length-map, length-replicate}
+use lib.Seq.{take-at, take-suc, take-suc-set, take-set-lt, set-at, set-out, length-take-le}
 use Rattle.lists.specs.Bools.{or-no, or-assoc}
 use Rattle.lists.specs.Maps.{map-append, any-snoc}
 use Rattle.lists.specs.Scans.{anyOf}
+use Rattle.octets.specs.Flags.{flags}
+use Rattle.octets.specs.Flagging.{length-flags}
 use Rattle.octets.specs.Rows.{row}
-use Rattle.units.specs.Pages.{numbersOf}
 use Rattle.units.specs.Sizes.{entryRow}
-use Rattle.units.specs.declared.Page.{Page}
 use Rattle.units.specs.declared.Tick.{Tick}
 use Rattle.sidefile.specs.Judge.{ascending}
 use Rattle.sidefile.specs.Table.{position}
@@ -23,17 +23,50 @@ use Rattle.ledger.specs.View.{indexed, entryOf, entriesIn}
 use Rattle.ledger.specs.Entries.{pageOf, has, find, retires, enteredOr}
 use Rattle.ledger.specs.Changed.{among, isOld, entryTicks, retires-old, mark-page}
 use Rattle.ledger.specs.Search.{find-get}
-use Rattle.ledger.specs.Read.{entry-last}
+use Rattle.ledger.specs.Read.{entry-last, entries-whole}
+use Rattle.ledger.specs.Rowed.{length-entriesIn}
 
--- the flag of row i, by what a test says of its entry
-pub flag-next : (t : Entry → Bool) (n : ℕ) (xs : List ℕ) (i : ℕ) → i < n → (flags : List Bool) → i < length flags → take i flags ≡ map t (take i (entriesIn n xs))
-    → (b : Bool) → b ≡ t (entryOf (row 0 entryRow i xs)) → take (i + 1) (set flags i b) ≡ map t (take (i + 1) (entriesIn n xs))
-flag-next t n xs i h flags k e b q =
-    rw (entry-last n xs i h, map-append t (take i (entriesIn n xs)) (entryOf (row 0 entryRow i xs) ∷ []), ← e, ← q, add-one i) (take-suc-set flags i b k)
+-- how long a table of flags is of which none is set
+pub table-bytes : (s : List ℕ) (n : ℕ) → flags s ≡ replicate n false → 8 * length s ≡ n
+table-bytes s n e = omega (arith, length-flags s, ap length e, length-replicate n false)
 
-pub numbers-whole : (k : ℕ) (pages : List Page) (j : ℕ) → k ≤ j → take j (numbersOf k pages) ≡ numbersOf k pages
-numbers-whole k pages j h =
-    take-all j (map (λ p. p .0) (take k pages)) (omega (arith, length-map (take k pages) (λ (p : Page). p .0), length-take k pages))
+-- flags by what a test says of the first i entries, and none set behind them
+module _ (t : Entry → Bool) (m n : ℕ) (xs : List ℕ) where
+  unfoldable pub flaggedUpTo : ℕ → List Bool
+  flaggedUpTo i = map t (take i (entriesIn n xs)) ++ replicate (m - i) false
+
+  pub flagged-none : replicate m false ≡ flaggedUpTo 0
+  unfolding flaggedUpTo
+  flagged-none = let e : m - 0 ≡ m = omega arith in rw e
+
+  module _ (i : ℕ) (h : i < n) (k : i < m) where
+    abbrev before : List Bool
+    before = map t (take i (entriesIn n xs))
+
+    length-before : length before ≡ i
+    length-before = length-map (take i (entriesIn n xs)) t ∙ length-take-le i (entriesIn n xs) (omega (arith, length-entriesIn n xs))
+
+    next : flaggedUpTo (i + 1) ≡ before ++ (t (entryOf (row 0 entryRow i xs)) ∷ replicate (m - (i + 1)) false)
+    unfolding flaggedUpTo
+    next =
+        rw (entry-last n xs i h, map-append t (take i (entriesIn n xs)) (entryOf (row 0 entryRow i xs) ∷ []))
+        (append-assoc before (t (entryOf (row 0 entryRow i xs)) ∷ []) (replicate (m - (i + 1)) false))
+
+    here : flaggedUpTo i ≡ before ++ (false ∷ replicate (m - (i + 1)) false)
+    unfolding flaggedUpTo
+    here = let e : m - i ≡ suc (m - (i + 1)) = omega arith in rw e
+
+    pub flagged-yes : (fs : List Bool) → fs ≡ flaggedUpTo i → t (entryOf (row 0 entryRow i xs)) ≡ true → set fs i true ≡ flaggedUpTo (i + 1)
+    flagged-yes fs e q = rw (e, here, next, q) (set-at before false (replicate (m - (i + 1)) false) true i length-before)
+
+    pub flagged-no : (fs : List Bool) → fs ≡ flaggedUpTo i → t (entryOf (row 0 entryRow i xs)) ≡ false → fs ≡ flaggedUpTo (i + 1)
+    flagged-no fs e q = e ∙ rw (here, next, q)
+
+  pub flagged-all : (i : ℕ) → i ≡ n → take n (flaggedUpTo i) ≡ map t (entriesIn n xs)
+  unfolding flaggedUpTo
+  flagged-all i e =
+      rw (e, entries-whole n xs n (omega arith))
+      (take-at (map t (entriesIn n xs)) (replicate (m - n) false) n (length-map (entriesIn n xs) t ∙ length-entriesIn n xs))
 
 -- The changed pages, one after the other.
 
@@ -49,18 +82,12 @@ module _ (wait : ℕ) (N : Tick) (es : List Entry) where
   pub goes-all : (cs : List ℕ) → map (goes cs) es ≡ map (retires wait N (among cs)) es
   goes-all cs = λ i. map (λ e. retires-old wait N (among cs) e i) es
 
-  module _ (k : ℕ) (pages : List Page) (long : k ≤ length pages) (j : ℕ) (h : j < k) where
-    abbrev cs : List ℕ
-    cs = numbersOf k pages
-
+  module _ (cs : List ℕ) (j : ℕ) (h : j < length cs) where
     abbrev c : ℕ
-    c = getD pages j (record { 0 = 0 }) .0
+    c = getD cs j 0
 
     cs-next : take (j + 1) cs ≡ take j cs ++ (c ∷ [])
-    cs-next =
-        let l : j < length (map (λ (p : Page). p .0) (take k pages)) = rw (length-map (take k pages) (λ (p : Page). p .0), length-take-le k pages long) h in
-        rw (add-one j) (take-suc (map (λ (p : Page). p .0) (take k pages)) j 0 l
-        ∙ rw (List·getD-map (λ (p : Page). p .0) (take k pages) j (record { 0 = 0 }), getD-take k pages j (record { 0 = 0 }) h))
+    cs-next = rw (add-one j) (take-suc cs j 0 h)
 
     goes-next : map (λ e. goes (take j cs) e || has c e) es ≡ map (goes (take (j + 1) cs)) es
     unfolding among has
@@ -78,8 +105,8 @@ module _ (wait : ℕ) (N : Tick) (es : List Entry) where
       goes-unmarked a k =
           e ∙ sym (set-out (map (goes (take j cs)) es) at true (rw (length-map es (goes (take j cs)), l) k)) ∙ rw found (mark-page (goes (take j cs)) c 0 es a) ∙ goes-next
 
-    pub tick-next : (at : ℕ) → at ≡ position (has c) es → (entered : List Tick) → j < length entered → take j entered ≡ entryTicks N es (take j cs)
-        → (t : Tick) → t ≡ enteredOr N (getElem? es at) → take (j + 1) (set entered j t) ≡ entryTicks N es (take (j + 1) cs)
+    pub tick-next : (at : ℕ) → at ≡ position (has c) es → (entered : List ℕ) → j < length entered → take j entered ≡ entryTicks N es (take j cs)
+        → (t : Tick) → t ≡ enteredOr N (getElem? es at) → take (j + 1) (set entered j (t .0)) ≡ entryTicks N es (take (j + 1) cs)
     unfolding entryTicks
     tick-next at found entered m e t q =
-        rw (cs-next, map-append (λ p. enteredOr N (find p es)) (take j cs) (c ∷ []), ← e, find-get c es, ← found, ← q, add-one j) (take-suc-set entered j t m)
+        rw (cs-next, map-append (λ p. enteredOr N (find p es) .0) (take j cs) (c ∷ []), ← e, find-get c es, ← found, ← q, add-one j) (take-suc-set entered j (t .0) m)

@@ -29,9 +29,9 @@ among cs p = anyOf (eqb p) cs
 unfoldable pub isOld : ℕ → Tick → Entry → Bool
 isOld wait N e = Ages.leaves wait (e .changed) false N
 
--- the entry ticks of changed pages: those of their entries, or N
-unfoldable pub entryTicks : Tick → List Entry → List ℕ → List Tick
-entryTicks N es cs = map (λ p. enteredOr N (find p es)) cs
+-- the numbers of the entry ticks of changed pages: those of their entries, or N
+unfoldable pub entryTicks : Tick → List Entry → List ℕ → List ℕ
+entryTicks N es cs = map (λ p. enteredOr N (find p es) .0) cs
 
 -- the pages that pass a test are those among which a page is if it passes
 pub among-kept : (t : ℕ → Bool) (end : ℕ) → ((p : ℕ) → end ≤ p → t p ≡ false) → (p : ℕ) → among (keep t (below end)) p ≡ t p

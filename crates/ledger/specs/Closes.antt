@@ -7,7 +7,7 @@ use mathlib.Core.List.{List, map}
 use mathlib.Core.Logic.{_⊎_, inl, inr}
 use native.Mathlib.Omega.{arith}
 use lib.Dec.{eqb}
-use lib.ListN.{length, take, getD, length-map, List·getD-map}
+use lib.ListN.{length, take, getD, length-map}
 use lib.Seq.{getD-take, ext-getD}
 use borrow.Author.Tests.{eq-eqb, ne-eqb}
 use Rattle.lists.specs.Below.{below, zip, length-from, get-from, every-from}
@@ -15,10 +15,7 @@ use Rattle.lists.specs.Maps.{get-map, get-zip, map-same, keep-same}
 use Rattle.lists.specs.Scans.{Every, keep, anyOf, every-map, any-keep}
 use Rattle.octets.specs.Part.{lay}
 use Rattle.units.specs.Ages as Ages
-use Rattle.units.specs.Pages.{numbersOf}
 use Rattle.units.specs.Sizes.{entries, places}
-use Rattle.units.specs.declared.Page.{Page}
-use Rattle.units.specs.declared.Place.{Place}
 use Rattle.units.specs.declared.Tick.{Tick}
 use Rattle.sidefile.specs.Judge.{ascending, apart}
 use Rattle.ledger.specs.declared.Entry.{Entry}
@@ -33,16 +30,16 @@ use Rattle.ledger.specs.Due.{dueIn, dueOf}
 use Rattle.ledger.specs.Guarded.{ledgerLater}
 use Rattle.ledger.specs.Changed.{entryTicks}
 use Rattle.ledger.specs.Flagged.{picked, others, picked-keep, others-keep}
-use Rattle.ledger.specs.Tables.{placesOf, heldBy, rowAfter, rowsAfter, row-after, table-get}
+use Rattle.ledger.specs.Tables.{heldBy, rowAfter, rowsAfter, row-after, table-get}
 use Rattle.ledger.specs.Renewed.{freshAt, freshOf, Settles, Renews, laterIn, placesLater, renewed, isDueNow}
 
 -- Arrays of new entries.
 
 -- the pages, their places, the checksums of their images and their entry ticks make the new entries of these pages and places
-pub fresh-arrays : (N : Tick) (es : List Entry) (sum : ℕ → ℕ) (cs qs : List ℕ) (pages : List Page) (given : List Place) (sums : List ℕ) (entered : List Tick) (k : ℕ)
-    → length cs ≡ k → length cs ≤ length qs → numbersOf k pages ≡ cs → placesOf k given ≡ take k qs → take k sums ≡ map sum cs → take k entered ≡ entryTicks N es cs
+pub fresh-arrays : (N : Tick) (es : List Entry) (sum : ℕ → ℕ) (cs qs pages given sums entered : List ℕ) (k : ℕ)
+    → length cs ≡ k → length cs ≤ length qs → take k pages ≡ cs → take k given ≡ take k qs → take k sums ≡ map sum cs → take k entered ≡ entryTicks N es cs
     → freshOf N pages given sums entered k ≡ map (fresh N es sum) (zip cs qs)
-unfolding freshOf freshAt fresh placesOf entryTicks
+unfolding freshOf freshAt fresh entryTicks
 fresh-arrays N es sum cs qs pages given sums entered k c m p q s t =
     ext-getD (new 0) (map new (below k)) (map (fresh N es sum) (zip cs qs))
     (len ∙ sym c ∙ sym (length-fresh N es sum cs qs m))
@@ -54,21 +51,20 @@ fresh-arrays N es sum cs qs pages given sums entered k c m p q s t =
     len : length (map new (below k)) ≡ k
     len = length-map (below k) new ∙ length-from 0 k
 
+    taken : (l : List ℕ) (i : ℕ) → i < k → getD l i 0 ≡ getD (take k l) i 0
+    taken l i h = sym (getD-take k l i 0 h)
+
     one : (i : ℕ) → i < k → getD (map new (below k)) i (new 0) ≡ getD (map (fresh N es sum) (zip cs qs)) i (new 0)
     one i h =
-        let page : getD pages i (record { 0 = 0 }) .0 ≡ getD cs i 0 =
-        sym (ap (λ (l : List ℕ). getD l i 0) (sym p) ∙ List·getD-map (λ (x : Page). x .0) (take k pages) i (record { 0 = 0 }) ∙ ap (λ (x : Page). x .0) (getD-take k pages i (record { 0 = 0 }) h)) in
-        let place : getD given i (record { 0 = 0 }) .0 ≡ getD qs i 0 =
-        sym (sym (getD-take k qs i 0 h) ∙ ap (λ (l : List ℕ). getD l i 0) (sym q) ∙ List·getD-map (λ (x : Place). x .0) (take k given) i (record { 0 = 0 })
-        ∙ ap (λ (x : Place). x .0) (getD-take k given i (record { 0 = 0 }) h)) in
+        let page : getD pages i 0 ≡ getD cs i 0 = taken pages i h ∙ ap (λ (l : List ℕ). getD l i 0) p in
+        let place : getD given i 0 ≡ getD qs i 0 = taken given i h ∙ ap (λ (l : List ℕ). getD l i 0) q ∙ sym (taken qs i h) in
         let total : getD sums i 0 ≡ sum (getD cs i 0) =
-        sym (getD-take k sums i 0 h) ∙ ap (λ (l : List ℕ). getD l i 0) s ∙ get-map sum 0 0 i cs (omega arith) in
-        let tick : getD entered i (record { 0 = 0 }) ≡ enteredOr N (find (getD cs i 0) es) =
-        sym (getD-take k entered i (record { 0 = 0 }) h) ∙ ap (λ (l : List Tick). getD l i (record { 0 = 0 })) t
-        ∙ get-map (λ x. enteredOr N (find x es)) 0 (record { 0 = 0 }) i cs (omega arith) in
+        taken sums i h ∙ ap (λ (l : List ℕ). getD l i 0) s ∙ get-map sum 0 0 i cs (omega arith) in
+        let tick : getD entered i 0 ≡ enteredOr N (find (getD cs i 0) es) .0 =
+        taken entered i h ∙ ap (λ (l : List ℕ). getD l i 0) t ∙ get-map (λ x. enteredOr N (find x es) .0) 0 0 i cs (omega arith) in
         let z : 0 + i ≡ i = omega arith in
         get-from new (new 0) 0 k i h ∙ ap new z
-        ∙ (λ j. record { page = record { 0 = page j }; place = record { 0 = place j }; changed = N; sum = total j; entered = tick j })
+        ∙ (λ j. record { page = record { 0 = page j }; place = record { 0 = place j }; changed = N; sum = total j; entered = record { 0 = tick j } })
         ∙ sym (get-zip (fresh N es sum) (new 0) i cs qs (omega arith) (omega arith))
 
 -- The ledger of a close.

@@ -1,19 +1,18 @@
--- Places in tables and lists, as arrays have them: which of 272 places pass a test, the numbers of the first k places, the row
--- of a place after a close by a flag; and which places the entries of some rows hold. Assumes nothing.
+-- Places in tables: which of 272 places pass a test, the row of a place after a close by a flag; and which places the entries
+-- of some rows hold. Assumes nothing.
 use Prim.Native.Nat.{ℕ, zero, suc, _<_}
 use mathlib.Core.Path.{_≡_, refl, _∙_, sym, ap}
 use mathlib.Core.Bool.{Bool, true, false, not, _&&_, _||_}
 use mathlib.Core.List.{List, _∷_, map}
 use native.Mathlib.Omega.{arith}
 use lib.Dec.{eqb}
-use lib.ListN.{length, take, getD, set, replicate, length-map}
+use lib.ListN.{length, getD, set, replicate, length-map}
 use Rattle.lists.specs.Below.{from, below, length-from, get-from}
 use Rattle.lists.specs.Bools.{if-then}
 use Rattle.lists.specs.Passes.{set-from}
 use Rattle.lists.specs.Scans.{keep, anyOf}
 use Rattle.units.specs.Ages as Ages
 use Rattle.units.specs.Sizes.{wait, places}
-use Rattle.units.specs.declared.Place.{Place}
 use Rattle.units.specs.declared.Settings.{Settings}
 use Rattle.units.specs.declared.Tick.{Tick}
 use Rattle.ledger.specs.declared.Entry.{Entry}
@@ -24,10 +23,6 @@ use Rattle.ledger.specs.Placed.{givenUp, resting}
 -- for each place that any settings can have, whether it passes
 unfoldable pub placeTable : (ℕ → Bool) → List Bool
 placeTable f = map f (below 272)
-
--- the numbers of the first k places
-unfoldable pub placesOf : ℕ → List Place → List ℕ
-placesOf k l = map (λ p. p .0) (take k l)
 
 -- the places that may be given at close N, with the ledger's first n entries
 unfoldable pub freeIn : Settings → ℕ → Tick → List ℕ → List ℕ

@@ -16,6 +16,7 @@ ghost use lib.Dec.{eqb};
 ghost use lib.ListN.{length, getD};
 ghost use Rattle.lists.specs.Below.{below};
 ghost use Rattle.lists.specs.Scans.{Every, allOf};
+ghost use Rattle.octets.specs.Flags.{flags};
 ghost use Rattle.units.specs.Sizes as Sizes;
 ghost use Rattle.units.specs.Sizes.{entryRow, limits, ledgerLength};
 ghost use Rattle.ledger.specs.Entries.{pageOf};
@@ -66,14 +67,9 @@ fn ticks_fit(s: &[u8], n: usize, wait: u32, closed: Tick, seats: [Page; 16], slo
 }
 
 // What is retired was so by the closed tick, and no entry holds it.
-fn places_fit(
-    s: &[u8],
-    settings: Settings,
-    held: &[bool; Settings::MOST_PLACES],
-    closed: Tick,
-) -> bool
-    requires { ⌜ (limits settings ≡ true) × (ledgerLength settings ≤ length (now s)) ⌝ }
-    ensures { λ r. ⌜ r ≡ allOf (λ q. placeFits settings closed (now (s .entry)) (getD (now (held .entry)) q false) q) (below (Sizes.places settings)) ⌝ }
+fn places_fit(s: &[u8], settings: Settings, held: &[u8], closed: Tick) -> bool
+    requires { ⌜ (limits settings ≡ true) × (ledgerLength settings ≤ length (now s)) × (Sizes.places settings ≤ 8 * length (now held)) ⌝ }
+    ensures { λ r. ⌜ r ≡ allOf (λ q. placeFits settings closed (now (s .entry)) (getD (flags (now (held .entry))) q false) q) (below (Sizes.places settings)) ⌝ }
 {
     let at = settings.places_at();
     let m = settings.places();
@@ -83,7 +79,7 @@ fn places_fit(
             if closed.0 < number(s, at, Settings::PLACE_ROW, q, 1) {
                 return false;
             }
-            if held[q] {
+            if octets::flag(held, q) {
                 return false;
             }
         }
@@ -110,7 +106,7 @@ pub fn keeps_rules(
     if !ticks_fit(s, n, settings.wait(), closed, seats, wide(settings.slots)) {
         return false;
     }
-    let mut held = [false; Settings::MOST_PLACES];
+    let mut held = [0u8; Settings::PLACE_FLAGS];
     if !places::held_places(s, n, settings.places(), &mut held) {
         return false;
     }

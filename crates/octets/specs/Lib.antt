@@ -1,3 +1,5 @@
 pub mod Part
 pub mod Number
 pub mod Rows
+pub mod Flags
+pub mod Flagging

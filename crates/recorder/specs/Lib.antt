@@ -4,6 +4,7 @@ pub mod Carried
 pub mod Close
 pub mod Closed
 pub mod Facts
+pub mod Handed
 pub mod Outcome
 pub mod Planned
 pub mod Rules

@@ -75,22 +75,22 @@ pub fn ascending_below(s: &[u8], at: usize, w: usize, n: usize, end: u32) -> boo
     true
 }
 
-// The places of n rows are below most, and none is used twice. The table says which were met.
+// The places of n rows are below most, and none is used twice. The flags say which were met.
 pub fn places_apart(s: &[u8], at: usize, w: usize, n: usize, most: usize) -> bool
     requires { ⌜ (at + n * w ≤ length (now s)) × (8 ≤ w) × (most ≤ 272) ⌝ }
     ensures { λ r. ⌜ r ≡ placesFit most (entriesAt at w n (now (s .entry))) ⌝ }
 {
-    let mut met = [false; Settings::MOST_PLACES];
+    let mut met = [0u8; Settings::PLACE_FLAGS];
     let mut i: usize = 0;
     while i < n {
         let place = wide(number(s, at, w, i, layout::PLACE));
         if most <= place {
             return false;
         }
-        if met[place] {
+        if octets::flag(&met, place) {
             return false;
         }
-        met[place] = true;
+        octets::raise(&mut met, place);
         i += 1;
     }
     true

@@ -50,10 +50,12 @@ impl Settings {
 
     pub const MOST_CAPACITY: u32 = 65535;
 
-    // The largest X and M, for tables by value.
+    // The largest X.
     pub const MOST_ENTRIES: usize = 144;
+    // The bytes of a table with a flag for each entry or place: of the 144 and the 272 that any settings can have.
+    pub const ENTRY_FLAGS: usize = 18;
 
-    pub const MOST_PLACES: usize = 272;
+    pub const PLACE_FLAGS: usize = 34;
 
     pub const HEADER_LENGTH: usize = 36;
     // A row of the index, of the ledger's entries and of its places.

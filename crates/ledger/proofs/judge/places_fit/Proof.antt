@@ -1,22 +1,48 @@
-use Prim.Native.Nat.{_+_, _-_, _*_, _≤_}
+use Prim.Native.Nat.{ℕ, _+_, _-_, _*_, _≤_}
+use mathlib.Core.Bool.{Bool, false}
 use mathlib.Core.Path.{_≡_, _∙_, sym}
 use mathlib.Core.Logic.{⊎-elim}
 use native.Mathlib.Omega.{arith}
-use borrow.Author.Needs.{needs}
-use lib.ListN.{length}
+use lib.ListN.{length, getD}
 use Rattle.lists.specs.Below.{below}
 use Rattle.lists.specs.Passes.{allFrom, all-start, all-turn, all-stop, all-end}
 use Rattle.lists.specs.Scans.{allOf}
+use Rattle.octets.specs.Flags.{flags}
 use Rattle.units.specs.Sizes.{placeRow, places, ledgerLength}
+use Rattle.ledger.specs.Fits.{placeFits}
 use Rattle.ledger.proofs.Judging.{rowFits, places-judged, place-free, place-late, place-held, place-fits}
+use borrow.Author.Needs.{needs}
 use Rattle.ledger.proofs.judge.places_fit.Statement.{statement}
 use Rattle.ledger.proofs.judge.places_fit.Tie as tie
 
 abbrev Inv-loop : tie.InvT-loop
-Inv-loop s held closed at m q₀ q = (q ≤ m) × (m ≤ 272) × (at + m * placeRow ≤ length s) × (allOf (rowFits at s closed held) (below m) ≡ allFrom (rowFits at s closed held) m q)
+Inv-loop s held closed at m q₀ q = (q ≤ m) × (m ≤ 8 * length held) × (at + m * placeRow ≤ length s) × (allOf (rowFits at s closed (flags held)) (below m) ≡ allFrom (rowFits at s closed (flags held)) m q)
 
 abbrev μ-loop : tie.MeasureT-loop
 μ-loop s held closed at m q₀ q = m - q
+
+-- the turn, from where the first number of a row is read: what was reckoned before, and the start
+abbrev turn : tie.After-number Inv-loop μ-loop → tie.At-loop Inv-loop μ-loop
+turn c = c .before .before
+
+abbrev reckoned : tie.At-loop Inv-loop μ-loop → tie.After-places-at Inv-loop μ-loop
+reckoned c = c .before .before
+
+abbrev start : tie.At-loop Inv-loop μ-loop → tie.Start Inv-loop μ-loop
+start c = reckoned c .before .before .before
+
+-- from the second number of a row: the first
+abbrev first : tie.After-struct-known Inv-loop μ-loop → tie.After-number Inv-loop μ-loop
+first c = c .before .before .before
+
+-- whether a place fits, by its row and its flag, and what that says of all
+abbrev fits : tie.At-loop Inv-loop μ-loop → ℕ → Bool
+fits l = rowFits (reckoned l .places-at .result) (start l .args .s .now) (start l .args .closed) (flags (start l .args .held .now))
+
+judged : (l : tie.At-loop Inv-loop μ-loop)
+    → allOf (fits l) (below (l .before .places .result))
+    ≡ allOf (λ q. placeFits (start l .args .settings) (start l .args .closed) (start l .args .s .now) (getD (flags (start l .args .held .now)) q false) q) (below (places (start l .args .settings)))
+judged l = places-judged (start l .args .settings) (start l .args .closed) (start l .args .s .now) (flags (start l .args .held .now)) (reckoned l .places-at .result) (l .before .places .result) (reckoned l .places-at .ensures .0) (l .before .places .ensures .0)
 
 places-at-requires : tie.Need-places-at-requires Inv-loop μ-loop
 places-at-requires c κs = search needs
@@ -27,7 +53,7 @@ places-requires c κs = search needs
 loop-holds : tie.Need-loop-holds Inv-loop μ-loop
 unfolding ledgerLength
 loop-holds c =
-    let long = c .before .before .before .pre .1 in
+    let long = c .before .before .before .before .pre .1 in
     (search needs, search needs, omega arith, all-start _ _)
 
 number-requires : tie.Need-number-requires Inv-loop μ-loop
@@ -38,29 +64,26 @@ number-requires-2 c κs = search needs
 
 returns : tie.Need-returns Inv-loop μ-loop
 returns c =
-    let a = c .before .before .before .before .before .before .before .before .before .before .args in
-    let p = c .before .before .before .before .before .before .before .before .places-at in
-    let m = c .before .before .before .before .before .before .before .places in
-    let l = c .before .before .before .before .before .before .loop in
-    let j = places-judged (a .settings) (a .closed) (a .s .now) (a .held .now) (p .result) (m .result) (p .ensures .0) (m .ensures .0) in
-    let t = rowFits (p .result) (a .s .now) (a .closed) (a .held .now) in
-    let n = c .before .before .before .before .number .ensures .0 in
-    let n2 = c .before .before .number2 .ensures .0 in
-    sym (sym j ∙ l .inv .3 ∙ all-stop t (m .result) (l .q) (omega arith) (place-late (p .result) (a .s .now) (a .closed) (a .held .now) (l .q) (λ z. c .before .before .before .if1 .taken (n ∙ z)) (omega arith)))
+    let s = c .before in
+    let n = first s in
+    let l = turn n in
+    let a = start l .args in
+    sym (sym (judged l) ∙ l .loop .inv .3
+    ∙ all-stop (fits l) (l .before .places .result) (l .loop .q) (omega arith)
+    (place-late (reckoned l .places-at .result) (a .s .now) (a .closed) (flags (a .held .now)) (l .loop .q) (λ z. s .before .before .if1 .taken (n .number .ensures .0 ∙ z)) (omega (arith, s .before .number2 .ensures .0))))
 
-element-copy-out-if3 : tie.Need-element-copy-out-if3 Inv-loop μ-loop
-element-copy-out-if3 c = search needs
+flag-requires : tie.Need-flag-requires Inv-loop μ-loop
+flag-requires c κs = search needs
 
 returns-2 : tie.Need-returns-2 Inv-loop μ-loop
 returns-2 c =
-    let a = c .before .before .before .before .before .before .before .before .before .before .before .before .args in
-    let p = c .before .before .before .before .before .before .before .before .before .before .places-at in
-    let m = c .before .before .before .before .before .before .before .before .before .places in
-    let l = c .before .before .before .before .before .before .before .before .loop in
-    let j = places-judged (a .settings) (a .closed) (a .s .now) (a .held .now) (p .result) (m .result) (p .ensures .0) (m .ensures .0) in
-    let t = rowFits (p .result) (a .s .now) (a .closed) (a .held .now) in
-    let n = c .before .before .before .before .before .before .number .ensures .0 in
-    sym (sym j ∙ l .inv .3 ∙ all-stop t (m .result) (l .q) (omega arith) (place-held (p .result) (a .s .now) (a .closed) (a .held .now) (l .q) (λ z. c .before .before .before .before .before .if1 .taken (n ∙ z)) (c .if3 .taken)))
+    let s = c .before .before .before in
+    let n = first s in
+    let l = turn n in
+    let a = start l .args in
+    sym (sym (judged l) ∙ l .loop .inv .3
+    ∙ all-stop (fits l) (l .before .places .result) (l .loop .q) (omega arith)
+    (place-held (reckoned l .places-at .result) (a .s .now) (a .closed) (flags (a .held .now)) (l .loop .q) (λ z. s .before .before .if1 .taken (n .number .ensures .0 ∙ z)) (sym (c .before .flag .ensures) ∙ c .if3 .taken)))
 
 add-q : tie.Need-add-q Inv-loop μ-loop
 add-q c = search needs
@@ -70,32 +93,25 @@ loop-less c = search needs
 
 loop-again : tie.Need-loop-again Inv-loop μ-loop
 loop-again c =
-    let a = c .before .before .before .before .before .before .before .args in
-    let p = c .before .before .before .before .before .places-at in
-    let m = c .before .before .before .before .places in
-    let l = c .before .before .before .loop in
-    let t = rowFits (p .result) (a .s .now) (a .closed) (a .held .now) in
-    let n = c .before .number .ensures .0 in (
+    let n = c .before in
+    let l = turn n in
+    let a = start l .args in
+    let p = reckoned l .places-at .result in (
       search needs,
-      l .inv .1,
-      l .inv .2,
-      l .inv .3
-          ∙ all-turn t (m .result) (l .q) (omega arith)
+      l .loop .inv .1,
+      l .loop .inv .2,
+      l .loop .inv .3
+          ∙ all-turn (fits l) (l .before .places .result) (l .loop .q) (omega arith)
           (⊎-elim
-          (λ u. place-fits (p .result) (a .s .now) (a .closed) (a .held .now) (l .q) (λ z. u .0 .taken (n ∙ z)) (omega (arith, u .1 .ensures .0, u .3 .left)) (u .5 .left))
-          (λ u. place-free (p .result) (a .s .now) (a .closed) (a .held .now) (l .q) (sym n ∙ u .left))
+          (λ u. place-fits p (a .s .now) (a .closed) (flags (a .held .now)) (l .loop .q) (λ z. u .0 .taken (n .number .ensures .0 ∙ z)) (omega (arith, u .1 .ensures .0, u .3 .left)) (sym (u .4 .ensures) ∙ u .5 .left))
+          (λ u. place-free p (a .s .now) (a .closed) (flags (a .held .now)) (l .loop .q) (sym (n .number .ensures .0) ∙ u .left))
           (c .if1 .came)),
     )
 
 returns-3 : tie.Need-returns-3 Inv-loop μ-loop
 returns-3 c =
-    let a = c .before .before .before .before .before .args in
-    let p = c .before .before .before .places-at in
-    let m = c .before .before .places in
-    let l = c .before .loop in
-    let j = places-judged (a .settings) (a .closed) (a .s .now) (a .held .now) (p .result) (m .result) (p .ensures .0) (m .ensures .0) in
-    let t = rowFits (p .result) (a .s .now) (a .closed) (a .held .now) in
-    sym (sym j ∙ l .inv .3 ∙ all-end t (m .result) (l .q) (omega arith))
+    let l = c .before in
+    sym (sym (judged l) ∙ l .loop .inv .3 ∙ all-end (fits l) (l .before .places .result) (l .loop .q) (omega arith))
 
 pub places-fit-spec : {M : Type 1} → statement M
 places-fit-spec =
@@ -109,7 +125,7 @@ places-fit-spec =
     number-requires
     number-requires-2
     returns
-    element-copy-out-if3
+    flag-requires
     returns-2
     add-q
     loop-less

@@ -1,10 +1,11 @@
 use Prim.Native.Nat.{_-_, _<_, _≤_}
-use mathlib.Core.Path.{_≡_, _∙_, ap}
+use mathlib.Core.Path.{_≡_, refl, _∙_, sym, ap}
 use mathlib.Core.List.{List}
 use mathlib.Core.Logic.{⊎-elim}
 use native.Mathlib.Omega.{arith}
-use borrow.Author.Needs.{needs}
-use lib.ListN.{take}
+use lib.ListN.{length, take}
+use Rattle.octets.specs.Flags.{flags}
+use Rattle.octets.specs.Flagging.{flags-clear}
 use Rattle.octets.specs.Rows.{row}
 use Rattle.units.specs.Sizes.{entryRow}
 use Rattle.ledger.specs.declared.Entry.{Entry}
@@ -14,21 +15,31 @@ use Rattle.ledger.specs.Read.{place-column, every-row, entries-whole}
 use Rattle.ledger.specs.Tables.{heldBy}
 use Rattle.ledger.specs.View.{entryOf, entriesIn}
 use Rattle.ledger.proofs.Placing.{held-none, held-marked, held-unmarked}
+use borrow.Author.Needs.{needs}
 use Rattle.ledger.proofs.places.places_of.Statement.{statement}
 use Rattle.ledger.proofs.places.places_of.Tie as tie
 
 abbrev Inv-loop : tie.InvT-loop
-Inv-loop s n marked held₀ i₀ held i = (i ≤ n) × (held ≡ heldBy (picked marked (take i (entriesIn n s))))
+Inv-loop s n marked held₀ i₀ held i = (i ≤ n) × (length held ≡ 34) × (flags held ≡ heldBy (picked (flags marked) (take i (entriesIn n s))))
 
 abbrev μ-loop : tie.MeasureT-loop
 μ-loop s n marked held₀ i₀ held i = n - i
 
+abbrev start : tie.At-loop Inv-loop μ-loop → tie.Start Inv-loop μ-loop
+start c = c .before .before .before
+
+-- the place of the entry of a row is one that the table has
+placed : (c : tie.In-loop Inv-loop μ-loop) → placeOf (entryOf (row 0 entryRow (c .before .loop .i) (start (c .before) .args .s .now))) < 272
+placed c =
+    let b = start (c .before) in
+    every-row (b .args .n) (b .args .s .now) (c .before .loop .i) (omega arith) (b .pre .2)
+
 loop-holds : tie.Need-loop-holds Inv-loop μ-loop
 unfolding picked
-loop-holds c = (search needs, held-none)
+loop-holds c = (search needs, refl, flags-clear 34 ∙ held-none)
 
-element-copy-out-if1 : tie.Need-element-copy-out-if1 Inv-loop μ-loop
-element-copy-out-if1 c = search needs
+flag-requires : tie.Need-flag-requires Inv-loop μ-loop
+flag-requires c κs = search needs
 
 number-requires : tie.Need-number-requires Inv-loop μ-loop
 number-requires c κs = search needs
@@ -36,12 +47,15 @@ number-requires c κs = search needs
 wide-requires : tie.Need-wide-requires Inv-loop μ-loop
 wide-requires c κs = search needs
 
-array-write-held : tie.Need-array-write-held Inv-loop μ-loop
-array-write-held c =
-    let a = c .before .before .before .before .before .before .before .args in
-    let l = c .before .before .before .before .before .loop in
-    let e : c .wide .result ≡ placeOf (entryOf (row 0 entryRow (l .i) (a .s .now))) = c .wide .ensures .0 ∙ c .before .number .ensures .0 ∙ place-column (row 0 entryRow (l .i) (a .s .now)) in
-    omega (arith, every-row (a .n) (a .s .now) (l .i) (omega arith) (c .before .before .before .before .before .before .before .pre .2))
+slice-aggregate-raise : tie.Need-slice-aggregate-raise Inv-loop μ-loop
+slice-aggregate-raise c = search needs
+
+raise-requires : tie.Need-raise-requires Inv-loop μ-loop
+raise-requires c κs =
+    let u = c .before .before .before .before .before in
+    let l = u .before in
+    let e : c .before .wide .result ≡ placeOf (entryOf (row 0 entryRow (l .loop .i) (start l .args .s .now))) = c .before .wide .ensures .0 ∙ c .before .before .number .ensures .0 ∙ place-column (row 0 entryRow (l .loop .i) (start l .args .s .now)) in
+    omega (arith, placed u)
 
 add-i : tie.Need-add-i Inv-loop μ-loop
 add-i c = search needs
@@ -51,25 +65,31 @@ loop-less c = search needs
 
 loop-again : tie.Need-loop-again Inv-loop μ-loop
 loop-again c =
-    let a = c .before .before .before .before .before .args in
-    let l = c .before .before .before .loop in
-    let h : l .i < a .n = omega arith in (
+    let l = c .before .before .before in
+    let a = start l .args in
+    let x = row 0 entryRow (l .loop .i) (a .s .now) in
+    let f = c .before .flag in
+    let h : l .loop .i < a .n = omega arith in
+    ⊎-elim
+    (λ u.
+    let e : u .2 .result ≡ placeOf (entryOf x) = u .2 .ensures .0 ∙ u .1 .ensures .0 ∙ place-column x in
+    rw (u .6) (
       search needs,
-      ⊎-elim
-          (λ u.
-          let e : u .2 .result ≡ placeOf (entryOf (row 0 entryRow (l .i) (a .s .now))) = u .2 .ensures .0 ∙ u .1 .ensures .0 ∙ place-column (row 0 entryRow (l .i) (a .s .now)) in
-          rw (u .3)
-          (held-marked (a .n) (a .s .now) (l .i) h (a .marked .now) (l .held) (l .inv .1) (u .0 .taken) (u .2 .result) e
-          (omega (arith, every-row (a .n) (a .s .now) (l .i) h (c .before .before .before .before .before .pre .2)))))
-          (λ u. rw (u .1) (held-unmarked (a .n) (a .s .now) (l .i) h (a .marked .now) (l .held) (l .inv .1) (u .0 .left)))
-          (c .if1 .came),
-    )
+      search needs,
+      u .4 .ensures ∙ held-marked (a .n) (a .s .now) (l .loop .i) h (flags (a .marked .now)) (flags (l .loop .held)) (l .loop .inv .2) (sym (f .ensures) ∙ u .0 .taken) (u .2 .result) e (omega (arith, placed (c .before .before))),
+    ))
+    (λ u. rw (u .1) (
+      search needs,
+      l .loop .inv .1,
+      held-unmarked (a .n) (a .s .now) (l .loop .i) h (flags (a .marked .now)) (flags (l .loop .held)) (l .loop .inv .2) (sym (f .ensures) ∙ u .0 .left),
+    ))
+    (c .if1 .came)
 
 returns : tie.Need-returns Inv-loop μ-loop
 returns c =
-    let a = c .before .before .before .args in
-    let l = c .before .loop in
-    l .inv .1 ∙ ap (λ (es : List Entry). heldBy (picked (a .marked .now) es)) (entries-whole (a .n) (a .s .now) (l .i) (omega arith))
+    let l = c .before in
+    let a = start l .args in
+    l .loop .inv .2 ∙ ap (λ (es : List Entry). heldBy (picked (flags (a .marked .now)) es)) (entries-whole (a .n) (a .s .now) (l .loop .i) (omega arith))
 
 pub places-of-spec : {M : Type 1} → statement M
 places-of-spec =
@@ -78,10 +98,11 @@ places-of-spec =
     Inv-loop
     μ-loop
     loop-holds
-    element-copy-out-if1
+    flag-requires
     number-requires
     wide-requires
-    array-write-held
+    slice-aggregate-raise
+    raise-requires
     add-i
     loop-less
     loop-again

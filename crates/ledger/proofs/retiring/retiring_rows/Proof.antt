@@ -1,24 +1,43 @@
-use mathlib.Core.Logic.{⊎-elim}
-use Rattle.lists.specs.Maps.{length-mapped}
-use Rattle.units.specs.Pages.{numbersOf}
-use Rattle.ledger.specs.Rowed.{length-entriesIn}
-use Rattle.ledger.proofs.Flagging.{goes, goes-none, goes-all, goes-marked, goes-unmarked, tick-next, numbers-whole}
-use Prim.Native.Nat.{ℕ, _-_, _<_, _≤_}
-use mathlib.Core.Path.{_≡_, refl, _∙_, ap}
+use Prim.Native.Nat.{ℕ, _-_, _*_, _<_, _≤_}
+use mathlib.Core.Path.{_≡_, refl, _∙_, sym, ap}
+use mathlib.Core.Bool.{Bool}
 use mathlib.Core.List.{List, map}
+use mathlib.Core.Logic.{⊎-elim}
 use native.Mathlib.Omega.{arith}
-use borrow.Author.Needs.{needs}
-use lib.ListN.{length, take, length-set}
+use lib.ListN.{length, take, getD, length-set}
+use lib.Seq.{getD-take, length-take-le, take-all}
+use Rattle.octets.specs.Flags.{flags}
+use Rattle.sidefile.specs.Table.{position}
 use Rattle.ledger.specs.Changed.{entryTicks}
+use Rattle.ledger.specs.Entries.{has}
+use Rattle.ledger.specs.Rowed.{length-entriesIn}
 use Rattle.ledger.specs.View.{entriesIn}
+use Rattle.ledger.proofs.Flagging.{table-bytes, goes, goes-none, goes-all, goes-marked, goes-unmarked, tick-next}
+use borrow.Author.Needs.{needs}
 use Rattle.ledger.proofs.retiring.retiring_rows.Statement.{statement}
 use Rattle.ledger.proofs.retiring.retiring_rows.Tie as tie
 
 abbrev Inv-loop : tie.InvT-loop
-Inv-loop s n k wait tick going₀ pages entered₀ j₀ going entered j = (j ≤ k) × (length pages ≡ 16) × (length entered ≡ 16) × (take n going ≡ map (goes wait tick (entriesIn n s) (take j (numbersOf k pages))) (entriesIn n s)) × (take j entered ≡ entryTicks tick (entriesIn n s) (take j (numbersOf k pages)))
+Inv-loop s n pages k wait tick going₀ entered₀ j₀ going entered j =
+    (j ≤ k)
+    × (8 * length going ≡ 144)
+    × (length entered ≡ 16)
+    × (take n (flags going) ≡ map (goes wait tick (entriesIn n s) (take j (take k pages))) (entriesIn n s))
+    × (take j entered ≡ entryTicks tick (entriesIn n s) (take j (take k pages)))
 
 abbrev μ-loop : tie.MeasureT-loop
-μ-loop s n k wait tick going₀ pages entered₀ j₀ going entered j = k - j
+μ-loop s n pages k wait tick going₀ entered₀ j₀ going entered j = k - j
+
+-- where the rows were flagged that are old: the start
+abbrev start : tie.After-slice-known2 Inv-loop μ-loop → tie.Start Inv-loop μ-loop
+start c = c .before .before .before .before .before .before
+
+-- in a turn, where the row of a page was looked for: the loop
+abbrev turn : tie.After-find Inv-loop μ-loop → tie.At-loop Inv-loop μ-loop
+turn c = c .before .before .before
+
+flagged : (c : tie.Start Inv-loop μ-loop) → 8 * length (c .args .going .now) ≡ 144
+flagged c = table-bytes (c .args .going .now) 144 (c .pre .5)
 
 old-rows-requires : tie.Need-old-rows-requires Inv-loop μ-loop
 old-rows-requires c κs = search needs
@@ -26,20 +45,26 @@ old-rows-requires c κs = search needs
 loop-holds : tie.Need-loop-holds Inv-loop μ-loop
 unfolding entryTicks
 loop-holds c =
-    let a = c .before .before .before .args in
-    (search needs, search (needs, length-mapped), refl, c .old-rows .ensures ∙ goes-none (a .wait) (a .tick) (entriesIn (a .n) (a .s .now)), refl)
+    let b = start c in
+    let a = b .args in (
+      search needs,
+      omega (arith, flagged b),
+      b .pre .6,
+      c .before .before .old-rows .ensures ∙ goes-none (a .wait) (a .tick) (entriesIn (a .n) (a .s .now)),
+      refl,
+    )
 
-mul-find : tie.Need-mul-find Inv-loop μ-loop
-mul-find c = search needs
+mul-t15 : tie.Need-mul-t15 Inv-loop μ-loop
+mul-t15 c = search needs
 
-array-copy-out-find : tie.Need-array-copy-out-find Inv-loop μ-loop
-array-copy-out-find c = search needs
+element-copy-out-t18 : tie.Need-element-copy-out-t18 Inv-loop μ-loop
+element-copy-out-t18 c = search needs
 
 find-requires : tie.Need-find-requires Inv-loop μ-loop
 find-requires c κs = search needs
 
-element-write-going : tie.Need-element-write-going Inv-loop μ-loop
-element-write-going c = search needs
+raise-requires : tie.Need-raise-requires Inv-loop μ-loop
+raise-requires c κs = search needs
 
 entered-at-requires : tie.Need-entered-at-requires Inv-loop μ-loop
 entered-at-requires c κs = search needs
@@ -47,8 +72,8 @@ entered-at-requires c κs = search needs
 mul-entered : tie.Need-mul-entered Inv-loop μ-loop
 mul-entered c = search needs
 
-array-set-from-entered : tie.Need-array-set-from-entered Inv-loop μ-loop
-array-set-from-entered c = search needs
+element-write-entered : tie.Need-element-write-entered Inv-loop μ-loop
+element-write-entered c = search needs
 
 add-j : tie.Need-add-j Inv-loop μ-loop
 add-j c = search needs
@@ -58,33 +83,40 @@ loop-less c = search needs
 
 loop-again : tie.Need-loop-again Inv-loop μ-loop
 loop-again c =
-    let a = c .before .before .before .before .before .before .before .before .before .args in
-    let asc = c .before .before .before .before .before .before .before .before .before .pre .3 in
-    let l = c .before .before .before .before .before .loop in
-    let f = c .before .before .find in
+    let f = c .before .before in
+    let l = turn f in
+    let b = start (l .before) in
+    let a = b .args in
     let es = entriesIn (a .n) (a .s .now) in
-    let long : a .k ≤ length (a .t3) = omega arith in
-    let h : l .j < a .k = omega arith in
+    let cs = take (a .k) (a .pages .now) in
+    let h : l .loop .j < length cs = omega (arith, length-take-le (a .k) (a .pages .now) (omega arith)) in
+    let page : getD (a .pages .now) (l .loop .j) 0 ≡ getD cs (l .loop .j) 0 = sym (getD-take (a .k) (a .pages .now) (l .loop .j) 0 (omega arith)) in
+    let found : f .find .result ≡ position (has (getD cs (l .loop .j) 0)) es = f .find .ensures .0 ∙ ap (λ (p : ℕ). position (has p) es) page in
     let n = length-entriesIn (a .n) (a .s .now) in (
       search needs,
-      l .inv .1,
-      simp length-set (l .inv .2),
+      ⊎-elim (λ u. rw (u .5) (search needs)) (λ u. rw (u .1) (l .loop .inv .1)) (c .before .if1 .came),
+      simp length-set (l .loop .inv .2),
       ⊎-elim
-          (λ u. rw (u .1) (goes-marked (a .wait) (a .tick) es (a .k) (a .t3) long (l .j) h (f .result) (f .ensures .0) (a .n) n (l .going) (l .inv .3) asc (u .0 .taken)))
-          (λ u. rw (u .1) (goes-unmarked (a .wait) (a .tick) es (a .k) (a .t3) long (l .j) h (f .result) (f .ensures .0) (a .n) n (l .going) (l .inv .3) asc (u .0 .left)))
+          (λ u. rw (u .5) (ap (take (a .n)) (u .2 .ensures) ∙ goes-marked (a .wait) (a .tick) es cs (l .loop .j) h (f .find .result) found (a .n) n (flags (l .loop .going)) (l .loop .inv .3) (b .pre .4) (u .0 .taken)))
+          (λ u. rw (u .1) (goes-unmarked (a .wait) (a .tick) es cs (l .loop .j) h (f .find .result) found (a .n) n (flags (l .loop .going)) (l .loop .inv .3) (b .pre .4) (u .0 .left)))
           (c .before .if1 .came),
-      tick-next (a .wait) (a .tick) es (a .k) (a .t3) long (l .j) h (f .result) (f .ensures .0) (l .entered) (omega arith) (l .inv .4) (c .entered-at .result) (c .entered-at .ensures),
+      tick-next (a .wait) (a .tick) es cs (l .loop .j) h (f .find .result) found (l .loop .entered) (omega arith) (l .loop .inv .4) (c .entered-at .result) (c .entered-at .ensures),
     )
+
+same-length : tie.Need-same-length Inv-loop μ-loop
+same-length c = omega (arith, flagged (start (c .before .before)))
 
 returns : tie.Need-returns Inv-loop μ-loop
 returns c =
-    let a = c .before .before .before .before .before .args in
-    let l = c .before .loop in
+    let l = c .before in
+    let a = start (l .before) .args in
     let es = entriesIn (a .n) (a .s .now) in
-    let e : a .k ≡ l .j = omega arith in
-    let w = numbers-whole (a .k) (a .t3) (l .j) (omega arith) in (
-      l .inv .3 ∙ ap (λ (cs : List ℕ). map (goes (a .wait) (a .tick) es cs) es) w ∙ goes-all (a .wait) (a .tick) es (numbersOf (a .k) (a .t3)),
-      ap (λ (m : ℕ). take m (l .entered)) e ∙ l .inv .4 ∙ ap (entryTicks (a .tick) es) w,
+    let cs = take (a .k) (a .pages .now) in
+    let e : a .k ≡ l .loop .j = omega arith in
+    let w : take (l .loop .j) cs ≡ cs = take-all (l .loop .j) cs (omega (arith, length-take-le (a .k) (a .pages .now) (omega arith))) in (
+      l .loop .inv .3 ∙ ap (λ (ps : List ℕ). map (goes (a .wait) (a .tick) es ps) es) w ∙ goes-all (a .wait) (a .tick) es cs,
+      ap (λ (m : ℕ). take m (l .loop .entered)) e ∙ l .loop .inv .4 ∙ ap (entryTicks (a .tick) es) w,
+      l .loop .inv .2,
     )
 
 pub retiring-rows-spec : {M : Type 1} → statement M
@@ -95,14 +127,15 @@ retiring-rows-spec =
     μ-loop
     old-rows-requires
     loop-holds
-    mul-find
-    array-copy-out-find
+    mul-t15
+    element-copy-out-t18
     find-requires
-    element-write-going
+    raise-requires
     entered-at-requires
     mul-entered
-    array-set-from-entered
+    element-write-entered
     add-j
     loop-less
     loop-again
+    same-length
     returns)

@@ -1,8 +1,12 @@
 use Prim.Native.Nat.{_-_, _≤_}
-use mathlib.Core.Path.{_≡_, refl, _∙_, sym}
+use mathlib.Core.Bool.{Bool}
+use mathlib.Core.List.{List}
+use mathlib.Core.Path.{_≡_, refl, _∙_, sym, ap}
 use native.Mathlib.Omega.{arith}
 use borrow.Author.Needs.{needs}
-use lib.ListN.{length, drop, length-set}
+use lib.ListN.{length, drop}
+use Rattle.octets.specs.Flags.{flags}
+use Rattle.octets.specs.Flagging.{flags-clear}
 use Rattle.octets.specs.Rows.{row, row-in}
 use Rattle.sidefile.specs.Table.{column, entriesAt, placesFit}
 use Rattle.sidefile.proofs.Scans.{fresh, noneMet, fresh-first, fresh-far, fresh-met, fresh-next, fresh-end}
@@ -11,24 +15,32 @@ use Rattle.sidefile.proofs.rows.places_apart.Tie as tie
 
 abbrev Inv-loop : tie.InvT-loop
 Inv-loop s at w n most met₀ i₀ met i =
-    (i ≤ n) × (length met ≡ 272)
-    × (placesFit most (entriesAt at w n s) ≡ fresh most met (drop i (entriesAt at w n s)))
+    (i ≤ n) × (length met ≡ 34)
+    × (placesFit most (entriesAt at w n s) ≡ fresh most (flags met) (drop i (entriesAt at w n s)))
 
 abbrev μ-loop : tie.MeasureT-loop
 μ-loop s at w n most met₀ i₀ met i = n - i
 
--- from where a row was read back to the turn of the loop, and from there to the entry
+abbrev start : tie.At-loop Inv-loop μ-loop → tie.Start Inv-loop μ-loop
+start c = c .before .before
+
+-- where the place of a row is read: the turn
 abbrev turn : tie.After-wide Inv-loop μ-loop → tie.At-loop Inv-loop μ-loop
 turn c = c .before .before .before
 
-abbrev start : tie.At-loop Inv-loop μ-loop → tie.Start Inv-loop μ-loop
-start c = c .before .before
+-- where its flag is tested: the place
+abbrev place : tie.After-flag Inv-loop μ-loop → tie.After-wide Inv-loop μ-loop
+place c = c .before .before .before
+
+read : (c : tie.After-wide Inv-loop μ-loop) → c .wide .result ≡ column 1 (row (start (turn c) .args .at) (start (turn c) .args .w) (turn c .loop .i) (start (turn c) .args .s .now))
+read c = omega arith
 
 loop-holds : tie.Need-loop-holds Inv-loop μ-loop
 unfolding noneMet
 loop-holds c =
     let a = c .before .args in
-    (search needs, refl, fresh-first (a .most) (entriesAt (a .at) (a .w) (a .n) (a .s .now)) (search needs))
+    let es = entriesAt (a .at) (a .w) (a .n) (a .s .now) in
+    (search needs, refl, fresh-first (a .most) es (search needs) ∙ ap (λ (l : List Bool). fresh (a .most) l es) (sym (flags-clear 34)))
 
 number-requires : tie.Need-number-requires Inv-loop μ-loop
 number-requires c κs =
@@ -40,24 +52,30 @@ wide-requires c κs = search needs
 
 returns : tie.Need-returns Inv-loop μ-loop
 returns c =
-    let t = turn (c .before) in
-    let a = start t .args in
-    let l = t .loop in
-    sym (l .inv .2 ∙ fresh-far (a .at) (a .w) (a .n) (a .s .now) (l .i) (omega arith) (a .most) (l .met) (omega arith))
+    let l = turn (c .before) in
+    let a = start l .args in
+    sym (l .loop .inv .2 ∙ fresh-far (a .at) (a .w) (a .n) (a .s .now) (l .loop .i) (omega arith) (a .most) (flags (l .loop .met)) (omega arith))
 
-array-read-if2 : tie.Need-array-read-if2 Inv-loop μ-loop
-array-read-if2 c = search needs
+slice-aggregate-flag : tie.Need-slice-aggregate-flag Inv-loop μ-loop
+slice-aggregate-flag c = search needs
+
+flag-requires : tie.Need-flag-requires Inv-loop μ-loop
+flag-requires c κs = search needs
 
 returns-2 : tie.Need-returns-2 Inv-loop μ-loop
 returns-2 c =
-    let t = turn (c .before .before) in
-    let a = start t .args in
-    let l = t .loop in
-    let e : c .before .before .wide .result ≡ column 1 (row (a .at) (a .w) (l .i) (a .s .now)) = omega arith in
-    sym (l .inv .2 ∙ fresh-met (a .at) (a .w) (a .n) (a .s .now) (l .i) (omega arith) (a .most) (l .met) (rw (← e) (c .if2 .taken)))
+    let p = place (c .before) in
+    let l = turn p in
+    let a = start l .args in
+    sym (l .loop .inv .2
+    ∙ fresh-met (a .at) (a .w) (a .n) (a .s .now) (l .loop .i) (omega arith) (a .most) (flags (l .loop .met))
+    (rw (← read p) (sym (c .before .flag .ensures) ∙ c .if2 .taken)))
 
-array-write-met : tie.Need-array-write-met Inv-loop μ-loop
-array-write-met c = search needs
+slice-aggregate-raise : tie.Need-slice-aggregate-raise Inv-loop μ-loop
+slice-aggregate-raise c = search needs
+
+raise-requires : tie.Need-raise-requires Inv-loop μ-loop
+raise-requires c κs = search needs
 
 add-i : tie.Need-add-i Inv-loop μ-loop
 add-i c = search needs
@@ -67,22 +85,23 @@ loop-less c = search needs
 
 loop-again : tie.Need-loop-again Inv-loop μ-loop
 loop-again c =
-    let t = turn (c .before .before) in
-    let a = start t .args in
-    let l = t .loop in
-    let e : c .before .before .wide .result ≡ column 1 (row (a .at) (a .w) (l .i) (a .s .now)) = omega arith in (
+    let u = c .before .before .before in
+    let p = place (u .before) in
+    let l = turn p in
+    let a = start l .args in (
       search needs,
-      simp length-set (l .inv .1),
-      rw e
-          (l .inv .2
-          ∙ fresh-next (a .at) (a .w) (a .n) (a .s .now) (l .i) (omega arith) (a .most) (l .met) (omega arith) (rw (← e) (c .if2 .left))),
+      search needs,
+      rw (c .before .raise .ensures, read p)
+          (l .loop .inv .2
+          ∙ fresh-next (a .at) (a .w) (a .n) (a .s .now) (l .loop .i) (omega arith) (a .most) (flags (l .loop .met)) (omega arith)
+          (rw (← read p) (sym (u .before .flag .ensures) ∙ u .if2 .left))),
     )
 
 returns-3 : tie.Need-returns-3 Inv-loop μ-loop
 returns-3 c =
-    let a = start (c .before) .args in
-    let l = c .before .loop in
-    sym (l .inv .2 ∙ fresh-end (a .at) (a .w) (a .n) (a .s .now) (l .i) (omega arith) (a .most) (l .met))
+    let l = c .before in
+    let a = start l .args in
+    sym (l .loop .inv .2 ∙ fresh-end (a .at) (a .w) (a .n) (a .s .now) (l .loop .i) (omega arith) (a .most) (flags (l .loop .met)))
 
 pub places-apart-spec : {M : Type 1} → statement M
 places-apart-spec =
@@ -94,9 +113,11 @@ places-apart-spec =
     number-requires
     wide-requires
     returns
-    array-read-if2
+    slice-aggregate-flag
+    flag-requires
     returns-2
-    array-write-met
+    slice-aggregate-raise
+    raise-requires
     add-i
     loop-less
     loop-again
