@@ -2,7 +2,7 @@
 -- written is what the close is defined to store. Assumes nothing.
 use Prim.Native.Nat.{ℕ, zero, suc, _+_, _*_, _<_, _≤_}
 use mathlib.Core.Path.{_≡_, refl, _∙_, sym, ap}
-use mathlib.Core.Bool.{Bool, true}
+use mathlib.Core.Bool.{true}
 use mathlib.Core.List.{List, [], _∷_, map}
 use mathlib.Core.Option.{Option, some, none}
 use native.Mathlib.Omega.{arith}
@@ -13,13 +13,11 @@ use Rattle.lists.specs.Scans.{Every, every-map, every-keep}
 use Rattle.octets.specs.Number.{Octets}
 use Rattle.octets.specs.Part.{lay, length-lay}
 use Rattle.units.specs.Bounds.{Within, limits-within, entries-most, places-most, firstImage-least}
-use Rattle.units.specs.Pages.{numbersOf}
 use Rattle.units.specs.Sizes.{top, entryRow, headerLength, limits, entries, places, indexEnd, sideLength, placesAt, ledgerLength}
 use Rattle.units.specs.declared.Tick.{Tick}
 use Rattle.sidefile.specs.Decode.{checksum-below}
 use Rattle.sidefile.specs.Encode.{imageSum, headerFor, indexBytes}
-use Rattle.slots.specs.Table.{toPage, slotOf, unmarked}
-use Rattle.slots.specs.declared.Slots.{Slots}
+use Rattle.slots.specs.Table.{toPage, slotOf, pageAt}
 use Rattle.ledger.specs.Closes.{fresh-arrays, later-in, renewed-later, renews, due-now}
 use Rattle.ledger.specs.Closing.{newOf, every-later, small-new, small-later, length-fresh}
 use Rattle.ledger.specs.Entries.{pageOf, putAll}
@@ -29,31 +27,30 @@ use Rattle.ledger.specs.Renewed.{freshAt, freshOf, Puts, Settles, Renews, later
 use Rattle.ledger.specs.Rowed.{Small, small-entriesIn}
 use Rattle.ledger.specs.Settled.{settles, settled-puts, settled-renewed}
 use Rattle.ledger.specs.Guarded.{later-read}
-use Rattle.ledger.specs.Tables.{placesOf}
 use Rattle.ledger.specs.Written.{rowsOf}
 use Rattle.ledger.specs.View.{indexed, entriesIn}
 use Rattle.ledger.specs.declared.Entry.{Entry}
-use Rattle.recorder.specs.Carried.{Carries}
+use Rattle.recorder.specs.Carried.{Carries, Carried}
 use Rattle.recorder.specs.Close.{openTick, changes, freePlaces, given, freshEntries, staying, after, frontStores, toSide, ledgerAfter, closed}
 use Rattle.recorder.specs.Closed.{closingOf, fresh-new, after-later, due-of, enough}
 use Rattle.recorder.specs.Facts.{RuleFacts, rule-facts}
-use Rattle.recorder.specs.Outcome.{lent}
+use Rattle.recorder.specs.Handed.{shown}
+use Rattle.recorder.specs.Planned.{Lists}
 use Rattle.recorder.specs.Stored.{imageStart, heldBytes, imaged, front-laid, side-stored, base-stored}
 use Rattle.recorder.specs.Stretches.{imagesLaid, imageSums, dueLaid}
-use Rattle.recorder.specs.World.{World, setClosed, setEntries, setSlots, slotCount, entriesOf, slotBytes, slotFor, bytesAt, bytesIn}
-use Rattle.recorder.specs.declared.plan.Plan.{Plan}
+use Rattle.recorder.specs.World.{World, slotCount, entriesOf, slotBytes, slotFor, bytesAt, bytesIn}
 
 each-map : {A B : Type 0} (at : B → ℕ) (b : B → List ℕ) (g : A → B) (l : List A) (xs : List ℕ) → layEach at b (map g l) xs ≡ layEach (λ x. at (g x)) (λ x. b (g x)) l xs
 unfolding layEach
 each-map at b g [] xs = refl
 each-map at b g (x ∷ l) xs = each-map at b g l (lay xs (at (g x)) (b (g x)))
 
--- what the copies look at: the state and the page buffer
+-- what the copies look at
 abbrev pub held : World → World
-held w = lent (w .state) [] [] [] (w .buffer) []
+held w = shown (w .state .settings) (w .state .slots .pages) (w .buffer)
 
 held-same : (w : World) → bytesIn (held w) ≡ bytesIn w
-unfolding bytesIn slotFor slotBytes
+unfolding bytesIn slotFor slotOf pageAt slotBytes
 held-same w = λ i p. one (slotOf (slotCount w) (w .state .slots) p) i
   where
     one : (o : Option ℕ) → bytesAt (held w) o ≡ bytesAt w o
@@ -61,29 +58,32 @@ held-same w = λ i p. one (slotOf (slotCount w) (w .state .slots) p) i
     one (some j) = refl
 
 -- the new entries of a plan with these checksums
-abbrev pub freshFor : Tick → Plan → List ℕ → List Entry
+abbrev pub freshFor : Tick → Lists → List ℕ → List Entry
 freshFor N p sums = freshOf N (p .pages) (p .places) sums (p .entered) (p .count)
 
 -- what is known once the checksums are there: the ledger is of bytes, and these are the checksums of the new images
-pub record Summed (w : World) (p : Plan) (going : List Bool) (N : Tick) (sums : List ℕ) : Type 0 where
-  pub carries : Carries w p going N
+pub record Summed (w : World) (N : Tick) (p : Lists) (sums : List ℕ) : Type 0 where
+  pub carries : Carries w N p
   pub octets : Octets (w .ledger)
-  pub made : take (p .count) sums ≡ imageSums (held w) (numbersOf (p .count) (p .pages))
+  pub made : take (p .count) sums ≡ imageSums (held w) (take (p .count) (p .pages))
 
 -- once the rows that are going have left the ledger: how many stay, and its bytes
-pub record Left (w : World) (going : List Bool) (N : Tick) (kept : ℕ) (ledger : List ℕ) : Type 0 where
-  pub count : kept ≡ length (others going (entriesIn (w .state .entries) (w .ledger)))
-  pub bytes : ledger ≡ lay (w .ledger) 0 (settled (w .state .settings) (w .ledger) (w .state .entries) going N)
+pub record Left (w : World) (N : Tick) (p : Lists) (kept : ℕ) (ledger : List ℕ) : Type 0 where
+  pub count : kept ≡ length (others (p .going) (entriesIn (w .state .entries) (w .ledger)))
+  pub bytes : ledger ≡ lay (w .ledger) 0 (settled (w .state .settings) (w .ledger) (w .state .entries) (p .going) N)
 
 -- and once it is renewed: how many entries there are, and its bytes
-pub record Anew (w : World) (p : Plan) (going : List Bool) (N : Tick) (sums : List ℕ) (n : ℕ) (ledger : List ℕ) : Type 0 where
-  pub summed : Summed w p going N sums
-  pub count : n ≡ length (laterIn (w .ledger) (w .state .entries) going (freshFor N p sums))
-  pub bytes : ledger ≡ lay (w .ledger) 0 (renewed (w .state .settings) (w .ledger) (w .state .entries) going (freshFor N p sums) N)
+pub record Anew (w : World) (N : Tick) (p : Lists) (sums : List ℕ) (n : ℕ) (ledger : List ℕ) : Type 0 where
+  pub summed : Summed w N p sums
+  pub count : n ≡ length (laterIn (w .ledger) (w .state .entries) (p .going) (freshFor N p sums))
+  pub bytes : ledger ≡ lay (w .ledger) 0 (renewed (w .state .settings) (w .ledger) (w .state .entries) (p .going) (freshFor N p sums) N)
 
-module _ {w : World} {p : Plan} {going : List Bool} {N : Tick} (k : Carries w p going N) where
+module _ {w : World} {N : Tick} {p : Lists} (k : Carries w N p) where
   facts : RuleFacts w
-  facts = rule-facts w (k .ruled)
+  facts = rule-facts w (k .closes .plans .0)
+
+  ticked : N ≡ openTick w
+  ticked = k .closes .plans .1
 
   pub limited : limits (w .state .settings) ≡ true
   limited = facts .limited
@@ -92,23 +92,30 @@ module _ {w : World} {p : Plan} {going : List Bool} {N : Tick} (k : Carries w p 
   within = limits-within (w .state .settings) limited
 
   room : (length (changes w) ≤ length (freePlaces w)) × (length (after w) ≤ entries (w .state .settings))
-  room = enough w (sym (k .planned .enough) ∙ k .enough)
+  room = enough w (k .enough)
 
-  -- rows can leave the ledger
+  -- rows can leave the ledger, and each has a flag
   pub can-settle : Settles (w .state .settings) (w .ledger) (w .state .entries)
   unfolding entriesOf
   can-settle =
       settles (w .state .settings) (w .ledger) (w .state .entries) limited (facts .ledger-long) (facts .counted)
       (every-map (λ e f. f .place-below) (entriesOf w) (facts .each))
 
+  pub flags-enough : w .state .entries ≤ length (p .going)
+  flags-enough = omega (arith, facts .counted, entries-most (w .state .settings) within, k .planned .whole-going)
+
   -- the images go into places
-  pub places-below : Every (λ q. q < places (w .state .settings)) (placesOf (p .count) (p .places))
+  pub places-below : Every (λ q. q < places (w .state .settings)) (take (p .count) (p .places))
   unfolding freePlaces
   places-below =
       rw (k .planned .placed (k .enough))
       (every-take (p .count) (freePlaces w)
       (every-map (λ q h. omega (arith, h .1 .1)) (freePlaces w)
       (every-keep _ (below (places (w .state .settings))) (every-from 0 (places (w .state .settings))))))
+
+  -- how many entries there are then has 32 bits
+  pub few-closed : (n : ℕ) → n ≡ length (after w) → n < 4294967296
+  few-closed n e = omega (arith, room .1, entries-most (w .state .settings) within)
 
   -- the numbers of entries have 32 bits
   sums-small : (q : ℕ) → imageSum (toPage q) (bytesIn w q) ≤ top
@@ -121,14 +128,14 @@ module _ {w : World} {p : Plan} {going : List Bool} {N : Tick} (k : Carries w p 
   places-small : places (w .state .settings) ≤ top
   places-small = omega (arith, places-most (w .state .settings) within)
 
-module _ {w : World} {p : Plan} {going : List Bool} {N : Tick} {sums : List ℕ} (m : Summed w p going N sums) where
-  k : Carries w p going N
+module _ {w : World} {N : Tick} {p : Lists} {sums : List ℕ} (m : Summed w N p sums) where
+  k : Carries w N p
   k = m .carries
 
   fresh-made : freshFor N p sums ≡ newOf (closingOf w)
   unfolding freshEntries given imageSums
   fresh-made =
-      rw (k .ticked)
+      rw (ticked k)
       (fresh-arrays (openTick w) (entriesOf w) (λ q. imageSum (toPage q) (bytesIn w q)) (changes w) (freePlaces w) (p .pages) (p .places) sums (p .entered) (p .count)
       (sym (k .planned .counted)) (room k .0) (k .planned .changed) (k .planned .placed (k .enough))
       (m .made ∙ rw (k .planned .changed, held-same w)) (k .planned .came)
@@ -144,26 +151,26 @@ module _ {w : World} {p : Plan} {going : List Bool} {N : Tick} {sums : List ℕ}
   smalls = small-entriesIn (w .state .entries) (w .ledger) (m .octets)
 
   -- the ledger can be renewed
-  can-renew : Renews (w .state .settings) (w .ledger) (w .state .entries) going (freshFor N p sums) (p .count)
+  can-renew : Renews (w .state .settings) (w .ledger) (w .state .entries) (p .going) (freshFor N p sums) (p .count)
   unfolding entriesOf
   can-renew =
       rw fresh-made
-      (renews (closingOf w) (w .state .entries) refl going (k .planned .gone) (can-settle k) (facts k .ascends) (p .count) (k .planned .most) made-count (rw (← after-later w) (room k .1))
-      (small-new (closingOf w) (omega (arith, k .low)) (end-small k) (places-small k) (sums-small k) smalls))
+      (renews (closingOf w) (w .state .entries) refl (p .going) (k .planned .gone) (can-settle k) (facts k .ascends) (p .count) (k .planned .most) made-count (rw (← after-later w) (room k .1))
+      (small-new (closingOf w) (omega (arith, k .closes .low)) (end-small k) (places-small k) (sums-small k) smalls))
 
   -- and is, by new entries put in once the others have left it
-  module _ {kept : ℕ} {ledger : List ℕ} (l : Left w going N kept ledger) where
+  module _ {kept : ℕ} {ledger : List ℕ} (l : Left w N p kept ledger) where
     count-made : length (freshFor N p sums) ≡ p .count
     count-made = ap length fresh-made ∙ made-count
 
     pub can-put : Puts ledger kept (freshFor N p sums) (p .count)
     can-put =
-        settled-puts (w .state .settings) (w .ledger) (w .state .entries) going N (freshFor N p sums) (p .count) can-renew (m .octets) count-made ledger (l .bytes) kept (l .count)
+        settled-puts (w .state .settings) (w .ledger) (w .state .entries) (p .going) N (freshFor N p sums) (p .count) can-renew (m .octets) count-made ledger (l .bytes) kept (l .count)
 
-    pub put-anew : (n : ℕ) → n ≡ kept + p .count → (ledger′ : List ℕ) → ledger′ ≡ lay ledger 0 (rowsOf (putAll (freshFor N p sums) (entriesIn kept ledger))) → Anew w p going N sums n ledger′
+    pub put-anew : (n : ℕ) → n ≡ kept + p .count → (ledger′ : List ℕ) → ledger′ ≡ lay ledger 0 (rowsOf (putAll (freshFor N p sums) (entriesIn kept ledger))) → Anew w N p sums n ledger′
     put-anew n c ledger′ b =
         let d =
-        settled-renewed (w .state .settings) (w .ledger) (w .state .entries) going N (freshFor N p sums) (p .count) can-renew (m .octets) count-made ledger (l .bytes) kept (l .count) in
+        settled-renewed (w .state .settings) (w .ledger) (w .state .entries) (p .going) N (freshFor N p sums) (p .count) can-renew (m .octets) count-made ledger (l .bytes) kept (l .count) in
         record { summed = m; count = c ∙ d .0; bytes = b ∙ d .1 }
 
   images-made : imagesLaid (held w) (p .pages) (p .places) (p .count) (w .side) ≡ imaged w
@@ -173,38 +180,35 @@ module _ {w : World} {p : Plan} {going : List Bool} {N : Tick} {sums : List ℕ}
       (sym (each-map (imageStart w) (heldBytes w) (freshAt N (p .pages) (p .places) sums (p .entered)) (below (p .count)) (w .side))
       ∙ ap (λ (es : List Entry). layEach (imageStart w) (heldBytes w) es (w .side)) (fresh-made ∙ sym (fresh-new w)))
 
-module _ {w : World} {p : Plan} {going : List Bool} {N : Tick} {sums : List ℕ} {n : ℕ} {ledger : List ℕ} (r : Anew w p going N sums n ledger) where
-  c : Carries w p going N
+module _ {w : World} {N : Tick} {p : Lists} {sums : List ℕ} {n : ℕ} {ledger : List ℕ} (r : Anew w N p sums n ledger) where
+  c : Carries w N p
   c = r .summed .carries
 
   count-after : n ≡ length (after w)
   unfolding entriesOf
   count-after =
-      r .count ∙ rw (fresh-made (r .summed)) (ap length (later-in (closingOf w) (w .state .entries) refl going (c .planned .gone))) ∙ ap length (sym (after-later w))
+      r .count ∙ rw (fresh-made (r .summed)) (ap length (later-in (closingOf w) (w .state .entries) refl (p .going) (c .planned .gone))) ∙ ap length (sym (after-later w))
 
   ledger-after : ledger ≡ closed w .ledger
   unfolding entriesOf closed ledgerAfter after freshEntries given changes freePlaces staying
   ledger-after =
       r .bytes
-      ∙ rw (fresh-made (r .summed), c .ticked) (renewed-later (closingOf w) (w .state .entries) refl going (c .planned .gone) (places-most (w .state .settings) (within c)))
+      ∙ rw (fresh-made (r .summed), ticked c) (renewed-later (closingOf w) (w .state .entries) refl (p .going) (c .planned .gone) (places-most (w .state .settings) (within c)))
 
   read-after : entriesIn n ledger ≡ after w
   unfolding closed ledgerAfter after freshEntries given changes freePlaces staying
   read-after =
       rw (count-after, ledger-after)
       (later-read (closingOf w) (facts c .ledger-long) (rw (← after-later w) (room c .1))
-      (small-later (closingOf w) (omega (arith, c .low)) (end-small c) (places-small c) (sums-small c) (smalls (r .summed))))
+      (small-later (closingOf w) (omega (arith, c .closes .low)) (end-small c) (places-small c) (sums-small c) (smalls (r .summed))))
 
   pub few-after : n ≤ entries (w .state .settings)
   few-after = omega (arith, count-after, room c .1)
 
-  pub small-after : n < 4294967296
-  small-after = omega (arith, few-after, entries-most (w .state .settings) (within c))
-
   pub long-after : n * entryRow ≤ length ledger
   unfolding ledgerLength placesAt
   long-after =
-      omega (arith, few-after, facts c .ledger-long, ap length (r .bytes), length-lay (w .ledger) 0 (renewed (w .state .settings) (w .ledger) (w .state .entries) going (freshFor N p sums) N))
+      omega (arith, few-after, facts c .ledger-long, ap length (r .bytes), length-lay (w .ledger) 0 (renewed (w .state .settings) (w .ledger) (w .state .entries) (p .going) (freshFor N p sums) N))
 
   pub pages-after : Every (λ e. pageOf e < w .state .settings .capacity) (entriesIn n ledger)
   pages-after =
@@ -214,7 +218,7 @@ module _ {w : World} {p : Plan} {going : List Bool} {N : Tick} {sums : List ℕ}
   -- the front of the side file fits, whatever was laid over it
   pub front-in : (side : List ℕ) → length side ≡ length (w .side) → indexEnd (w .state .settings) ≤ length side
   unfolding sideLength
-  front-in side e = omega (arith, c .side-long, firstImage-least (w .state .settings) (within c))
+  front-in side e = omega (arith, c .closes .side-long, firstImage-least (w .state .settings) (within c))
 
   -- the two files
   base-after : dueLaid (held w) N (entriesIn n ledger) (w .base) ≡ closed w .base
@@ -222,7 +226,7 @@ module _ {w : World} {p : Plan} {going : List Bool} {N : Tick} {sums : List ℕ}
   base-after =
       rw (
         read-after,
-        c .ticked,
+        ticked c,
         held-same w,
         after-later w,
         due-now (closingOf w) (facts c .ascends) (facts c .alone) (every-map (λ e f. f .changed-before) (entriesOf w) (facts c .each)),
@@ -234,15 +238,12 @@ module _ {w : World} {p : Plan} {going : List Bool} {N : Tick} {sums : List ℕ}
       → lay (lay side headerLength (indexBytes (w .state .settings) (map indexed (entriesIn n ledger)))) 0 (headerFor (w .state .settings) N (w .state .end) (map indexed (entriesIn n ledger)))
       ≡ closed w .side
   unfolding frontStores toSide
-  side-after side e = rw (e, images-made (r .summed), read-after, c .ticked) (front-laid w (imaged w) ∙ sym (side-stored w))
+  side-after side e = rw (e, images-made (r .summed), read-after, ticked c) (front-laid w (imaged w) ∙ sym (side-stored w))
 
   -- all of it is the close
-  pub carried : (t : Slots) → t ≡ unmarked (w .state .slots) → (base : List ℕ) → base ≡ dueLaid (held w) N (entriesIn n ledger) (w .base)
+  pub carried : (base : List ℕ) → base ≡ dueLaid (held w) N (entriesIn n ledger) (w .base)
       → (imaged′ : List ℕ) → imaged′ ≡ imagesLaid (held w) (p .pages) (p .places) (p .count) (w .side)
       → (side : List ℕ)
       → side ≡ lay (lay imaged′ headerLength (indexBytes (w .state .settings) (map indexed (entriesIn n ledger)))) 0 (headerFor (w .state .settings) N (w .state .end) (map indexed (entriesIn n ledger)))
-      → lent (setClosed N (setEntries n (setSlots t (w .state)))) ledger base side (w .buffer) (w .kinds) ≡ closed w
-  unfolding closed
-  carried t u base b imaged′ g side s =
-      λ i.
-      lent (setClosed (c .ticked i) (setEntries (count-after i) (setSlots (u i) (w .state)))) (ledger-after i) ((b ∙ base-after) i) ((s ∙ side-after imaged′ g) i) (w .buffer) (w .kinds)
+      → Carried w n ledger base side
+  carried base b imaged′ g side s = (count-after, ledger-after, b ∙ base-after, s ∙ side-after imaged′ g)

@@ -4,10 +4,12 @@ pub mod Carried
 pub mod Close
 pub mod Closed
 pub mod Facts
+pub mod Handed
 pub mod Outcome
 pub mod Planned
 pub mod Rules
 pub mod Runs
+pub mod Seats
 pub mod Stored
 pub mod Stretches
 pub mod Tests

@@ -11,8 +11,6 @@ use Rattle.lists.specs.Scans.{keep}
 use Rattle.octets.specs.Part.{part, part-none}
 use Rattle.octets.specs.Rows.{row, row-in}
 use Rattle.units.specs.Sizes.{imageAt}
-use Rattle.units.specs.declared.Page.{Page}
-use Rattle.units.specs.declared.Place.{Place}
 use Rattle.units.specs.declared.Tick.{Tick}
 use Rattle.sidefile.specs.Encode.{imageSum}
 use Rattle.slots.specs.Sits.{slot-found}
@@ -33,9 +31,9 @@ unfoldable pub stretchFor : World → ℕ → Stretch
 stretchFor w p = stretchAt (pageSize w) (slotFor w p)
 
 -- the image of page j laid at place j, for each j below k; and the checksums of some pages' images
-unfoldable pub imagesLaid : World → List Page → List Place → ℕ → List ℕ → List ℕ
+unfoldable pub imagesLaid : World → List ℕ → List ℕ → ℕ → List ℕ → List ℕ
 imagesLaid w pages places k xs =
-    layEach (λ j. imageAt (w .state .settings) (getD places j (record { 0 = 0 }))) (λ j. bytesIn w (getD pages j (record { 0 = 0 }) .0)) (below k) xs
+    layEach (λ j. imageAt (w .state .settings) (record { 0 = getD places j 0 })) (λ j. bytesIn w (getD pages j 0)) (below k) xs
 
 unfoldable pub imageSums : World → List ℕ → List ℕ
 imageSums w cs = map (λ p. imageSum (toPage p) (bytesIn w p)) cs

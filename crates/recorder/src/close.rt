@@ -4,49 +4,130 @@ use crate::Answer;
 use crate::State;
 use crate::front;
 use crate::plan;
-use crate::plan::Plan;
 use crate::stores;
 use crate::tests;
 use ledger::renewal;
 use sidefile::wide;
+use slots::lookup;
+use units::Page;
 use units::Settings;
 use units::Tick;
 use units::refusal;
 ghost use mathlib.Core.Path.{_≡_};
-ghost use mathlib.Core.List.{List, []};
-ghost use Prim.Native.Nat.{ℕ};
-ghost use Rattle.recorder.specs.Carried.{Carries};
-ghost use Rattle.recorder.specs.Close.{closed, closeReply};
+ghost use mathlib.Core.List.{[]};
+ghost use Rattle.octets.specs.Flags.{flags};
+ghost use Rattle.slots.specs.Numbers.{pagesOf};
+ghost use Rattle.recorder.specs.Carried.{Closes, Carries, CarriesTo, ClosesTo};
+ghost use Rattle.recorder.specs.Close.{closeReply};
+ghost use Rattle.recorder.specs.Handed.{handed, flagged, filed};
 ghost use Rattle.recorder.specs.Outcome.{lent, answered};
+ghost use Rattle.recorder.specs.World.{World};
 
-// The stores of a close that was planned, and its ledger. Answers the state after it. The kind table plays no part.
+// 0 and how many entries there are, or the number of the refusal.
+pub struct Done {
+    pub number: u32,
+    pub entries: u32,
+}
+
+// The stores of a close that was planned, and its ledger. Answers how many entries there are then.
 fn carry_out(
-    state: State,
+    settings: Settings,
+    end: u32,
+    entries: u32,
+    seats: &[u32; 16],
     ledger: &mut [u8],
     base: &mut [u8],
     side: &mut [u8],
     buffer: &[u8],
-    plan: Plan,
-    going: &[bool; Settings::MOST_ENTRIES],
     tick: Tick,
-) -> State
-    requires { ⌜ ((kinds : List ℕ) → Carries (lent state (now ledger) (now base) (now side) (now buffer) kinds) plan (now going) tick) ⌝ }
-    ensures { λ r. ⌜ ((kinds : List ℕ) → lent r (now (ledger .exit)) (now (base .exit)) (now (side .exit)) (now (buffer .entry)) kinds ≡ closed (lent state (now (ledger .entry)) (now (base .entry)) (now (side .entry)) (now (buffer .entry)) kinds)) ⌝ }
+    count: usize,
+    pages: &[u32; 16],
+    places: &[u32; 16],
+    entered: &[u32; 16],
+    going: &[u8],
+) -> usize
+    requires { ⌜ ((w : World) × Carries (filed (now base) (now side) (now buffer) (handed settings end entries (pagesOf (now seats)) (now ledger) w)) tick (record { count = count; pages = now pages; places = now places; entered = now entered; going = flags (now going) })) ⌝ }
+    ensures { λ r. ⌜ ((w : World) → CarriesTo (filed (now (base .entry)) (now (side .entry)) (now (buffer .entry)) (handed settings end entries (pagesOf (now (seats .entry))) (now (ledger .entry)) w)) tick (record { count = count; pages = now (pages .entry); places = now (places .entry); entered = now (entered .entry); going = flags (now (going .entry)) }) r (now (ledger .exit)) (now (base .exit)) (now (side .exit))) ⌝ }
 {
-    let pages = plan.pages;
-    let places = plan.places;
-    let entered = plan.entered;
-    let kept = renewal::settle(ledger, state.settings, wide(state.entries), going, tick);
-    let sums = stores::write_images(state, buffer, side, pages, places, plan.count);
-    let n = renewal::put_all(ledger, kept, pages, places, sums, entered, plan.count, tick);
-    stores::write_due(state, ledger, n, buffer, base, tick);
-    front::write_front(ledger, state.settings, n, tick, state.end, side);
-    let table = state.slots;
-    State {
-        closed: tick,
+    let kept = renewal::settle(ledger, settings, wide(entries), going, tick);
+    let mut sums = [0u32; 16];
+    stores::write_images(
+        settings,
+        seats,
+        buffer,
+        side,
+        pages,
+        places,
+        count,
+        &mut sums,
+    );
+    let n = renewal::put_all(ledger, kept, pages, places, &sums, entered, count, tick);
+    stores::write_due(settings, seats, ledger, n, buffer, base, tick);
+    front::write_front(ledger, settings, n, tick, end, side);
+    n
+}
+
+// A close whose tests before 10 have passed: planned, and if there is enough of everything carried out. It has the arrays of
+// the plan, so that a close has them once.
+fn closing(
+    settings: Settings,
+    end: u32,
+    entries: u32,
+    held: [Page; 16],
+    changed: [u8; 16],
+    tick: Tick,
+    ledger: &mut [u8],
+    base: &mut [u8],
+    side: &mut [u8],
+    buffer: &[u8],
+) -> Done
+    requires { ⌜ ((w : World) × Closes (filed (now base) (now side) (now buffer) (handed settings end entries held (now ledger) (flagged changed w))) tick) ⌝ }
+    ensures { λ r. ⌜ ((w : World) → ClosesTo (filed (now (base .entry)) (now (side .entry)) (now (buffer .entry)) (handed settings end entries held (now (ledger .entry)) (flagged changed w))) tick r (now (ledger .exit)) (now (base .exit)) (now (side .exit))) ⌝ }
+{
+    let mut seats = [0u32; 16];
+    let mut pages = [0u32; 16];
+    let mut places = [0u32; 16];
+    let mut entered = [0u32; 16];
+    let mut going = [0u8; Settings::ENTRY_FLAGS];
+    lookup::list_seats(held, &mut seats);
+    let plan = plan::of_close(
+        settings,
+        end,
+        entries,
+        &seats,
+        &changed,
+        ledger,
+        tick,
+        &mut going,
+        &mut pages,
+        &mut places,
+        &mut entered,
+    );
+    if !plan.enough {
+        return Done {
+            number: refusal::NO_PLACE,
+            entries,
+        };
+    }
+    let n = carry_out(
+        settings,
+        end,
+        entries,
+        &seats,
+        ledger,
+        base,
+        side,
+        buffer,
+        tick,
+        plan.count,
+        &pages,
+        &places,
+        &entered,
+        &going,
+    );
+    Done {
+        number: 0,
         entries: n as u32,
-        slots: table.unmark(),
-        ..state
     }
 }
 
@@ -63,20 +144,31 @@ pub fn close(
 {
     let number = tests::closes(state, ledger, base, side, buffer, kinds);
     if number != 0 {
-        return Answer { number, state };
+        return Answer::refused(number, state);
     }
     let tick = Tick(state.closed.0 + 1);
-    let mut going = [false; Settings::MOST_ENTRIES];
-    let plan = plan::of_close(state, ledger, tick, &mut going);
-    if !plan.enough {
-        return Answer {
-            number: refusal::NO_PLACE,
-            state,
-        };
+    let table = state.slots;
+    let pages = table.pages;
+    let changed = table.changed;
+    let done = closing(
+        state.settings,
+        state.end,
+        state.entries,
+        pages,
+        changed,
+        tick,
+        ledger,
+        base,
+        side,
+        buffer,
+    );
+    if done.number != 0 {
+        return Answer::refused(done.number, state);
     }
-    let after = carry_out(state, ledger, base, side, buffer, plan, &going, tick);
-    Answer {
-        number: 0,
-        state: after,
-    }
+    Answer::accepted(State {
+        closed: tick,
+        entries: done.entries,
+        slots: table.unmark(),
+        ..state
+    })
 }

@@ -1,57 +1,62 @@
 // What a close will do, worked out before anything is written: the changed pages with their places and entry ticks, and the
 // rows that leave. It tells whether there are places and rows enough (document 01, number 10).
-use crate::State;
 use ledger::places;
 use ledger::renewal;
 use ledger::retiring;
 use sidefile::wide;
-use units::Page;
-use units::Place;
+use slots::changes;
 use units::Settings;
 use units::Tick;
 ghost use mathlib.Core.Path.{_≡_};
-ghost use mathlib.Core.Bool.{true};
-ghost use mathlib.Core.List.{[]};
-ghost use lib.ListN.{length};
-ghost use Rattle.recorder.specs.Close.{openTick};
-ghost use Rattle.recorder.specs.Outcome.{lent};
-ghost use Rattle.recorder.specs.Planned.{Planned};
-ghost use Rattle.recorder.specs.Rules.{rules};
+ghost use mathlib.Core.Bool.{false};
+ghost use lib.ListN.{length, replicate};
+ghost use Rattle.octets.specs.Flags.{flags};
+ghost use Rattle.slots.specs.Numbers.{pagesOf};
+ghost use Rattle.recorder.specs.Handed.{handed, flagged};
+ghost use Rattle.recorder.specs.Planned.{Plans, PlansTo};
+ghost use Rattle.recorder.specs.World.{World};
 
-// The first `count` of each array of 16; where there is not enough, the places do not count.
+// Whether there is enough, and how many elements of the lent arrays count.
 pub struct Plan {
     pub enough: bool,
     pub count: usize,
-    pub pages: [Page; 16],
-    pub places: [Place; 16],
-    pub entered: [Tick; 16],
 }
 
-// Flags the rows that leave, in a table that the close lends.
+// Into the lent arrays: the changed pages, their places and their entry ticks; and flags of the rows that leave. Where there
+// is not enough, the places do not count.
 pub fn of_close(
-    state: State,
+    settings: Settings,
+    end: u32,
+    entries: u32,
+    seats: &[u32; 16],
+    changed: &[u8; 16],
     ledger: &[u8],
     tick: Tick,
-    going: &mut [bool; Settings::MOST_ENTRIES],
+    going: &mut [u8],
+    pages: &mut [u32; 16],
+    places: &mut [u32; 16],
+    entered: &mut [u32; 16],
 ) -> Plan
-    requires { ⌜ (rules (lent state (now ledger) [] [] [] []) ≡ true) × (tick ≡ openTick (lent state (now ledger) [] [] [] [])) × (length (now going) ≡ 144) ⌝ }
-    ensures { λ r. ⌜ Planned (lent state (now (ledger .entry)) [] [] [] []) r (now (going .exit)) ⌝ }
+    requires { ⌜ (flags (now going) ≡ replicate 144 false) × (length (now pages) ≡ 16) × (length (now places) ≡ 16) × (length (now entered) ≡ 16) ⌝ }
+    requires { ⌜ ((w : World) × Plans (handed settings end entries (pagesOf (now seats)) (now ledger) (flagged (now changed) w)) tick) ⌝ }
+    ensures { λ r. ⌜ ((w : World) → PlansTo (handed settings end entries (pagesOf (now (seats .entry))) (now (ledger .entry)) (flagged (now (changed .entry)) w)) tick (r .enough) (record { count = r .count; pages = now (pages .exit); places = now (places .exit); entered = now (entered .exit); going = flags (now (going .exit)) })) ⌝ }
 {
-    let settings = state.settings;
-    let n = wide(state.entries);
-    let table = state.slots;
-    let changed = table.changed_pages(wide(settings.slots), state.end);
-    let count = changed.count;
-    let pages = changed.pages;
-    let free = places::free_places(ledger, settings, n, tick, count);
-    let entered = retiring::retiring_rows(ledger, n, pages, count, settings.wait(), tick, going);
-    let later = renewal::staying(going, n) + count;
-    let given = free.places;
-    Plan {
-        enough: free.count == count && later <= settings.entries(),
-        count,
+    let n = wide(entries);
+    let count = changes::changed_pages(seats, changed, wide(settings.slots), end, pages);
+    let free = places::free_places(ledger, settings, n, tick, count, places);
+    retiring::retiring_rows(
+        ledger,
+        n,
         pages,
-        places: given,
+        count,
+        settings.wait(),
+        tick,
+        going,
         entered,
+    );
+    let later = renewal::staying(going, n) + count;
+    Plan {
+        enough: free == count && later <= settings.entries(),
+        count,
     }
 }

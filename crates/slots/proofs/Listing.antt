@@ -1,6 +1,6 @@
 -- The order of use while a page comes last in it and another makes way: what one turn, from the end on, does to it.
 -- Assumes nothing.
-use Prim.Native.Nat.{ℕ, suc, _+_, _<_}
+use Prim.Native.Nat.{ℕ, suc, _+_, _<_, _≤_}
 use mathlib.Core.Path.{_≡_, refl, _∙_, sym, ap}
 use mathlib.Core.List.{List, [], _∷_, _++_, map, append-assoc}
 use mathlib.Core.Bool.{Bool, true, false}
@@ -8,19 +8,15 @@ use native.Mathlib.Numerals.{add-one}
 use native.Mathlib.Omega.{arith}
 use lib.Dec.{eqb}
 use lib.ListN.{length, take, drop, getD, set, length-set}
-use lib.Seq.{take-suc, drop-cons, set-split, take-set-le, drop-set-lt, getD-set-same}
+use lib.Seq.{take-all, take-suc, take-suc-set, drop-cons, set-split, take-set-le, drop-set-lt, getD-set-same}
 use borrow.Author.Tests.{eq-eqb, ne-eqb}
 use Rattle.lists.specs.Bools.{if-then}
 use Rattle.lists.specs.Maps.{map-append}
 use Rattle.units.specs.Pages.{numbersOf}
 use Rattle.units.specs.declared.Page.{Page}
 use Rattle.slots.specs.Table.{toPage, without, times}
+use Rattle.slots.specs.Numbers.{pagesOf, pages-back}
 use Rattle.slots.specs.Order.{times-here, times-next, times-last}
-
--- the numbers of pages, and pages again
-pages-back : (l : List Page) → map toPage (map (λ p. p .0) l) ≡ l
-pages-back [] = refl
-pages-back (p ∷ ps) = ap (λ (l : List Page). p ∷ l) (pages-back ps)
 
 map-last : {A B : Type 0} (f : A → B) (l : List A) (x : A) (r : List B) → map f (l ++ (x ∷ [])) ++ r ≡ map f l ++ (f x ∷ r)
 map-last {B = B} f l x r = ap (λ (ys : List B). ys ++ r) (map-append f l (x ∷ [])) ∙ append-assoc (map f l) (f x ∷ []) r
@@ -87,3 +83,15 @@ module _ (x i j : ℕ) (o : List Page) (e : i ≡ suc j) (h : j < length o) wher
       unfolding moving
       moving-step =
           rw (last-of, without-last x (getD o j (toPage 0) .0) (numbersOf j o) n, map-last toPage, take-set-le j o j carry (omega arith), kept)
+
+-- the numbers of the first i pages stand in a list: with one more, and with all of them
+pub seats-next : (pages : List Page) (seats : List ℕ) (i : ℕ) → i < length seats → i < length pages → take i seats ≡ numbersOf i pages
+    → take (i + 1) (set seats i (getD pages i (toPage 0) .0)) ≡ numbersOf (i + 1) pages
+seats-next pages seats i h k e =
+    rw (add-one i, take-suc-set seats i (getD pages i (toPage 0) .0) h, e) (sym (last-of 0 (suc i) i pages refl k))
+
+pub seats-all : (pages : List Page) (seats : List ℕ) (n : ℕ) → length seats ≤ n → length pages ≤ n → take n seats ≡ numbersOf n pages → pagesOf seats ≡ pages
+seats-all pages seats n h k e =
+    let s : take n seats ≡ seats = take-all n seats h in
+    let p : take n pages ≡ pages = take-all n pages k in
+    ap pagesOf (sym s ∙ e) ∙ ap (λ (l : List Page). pagesOf (map (λ q. q .0) l)) p ∙ pages-back pages

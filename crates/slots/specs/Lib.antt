@@ -3,6 +3,7 @@ pub mod Asked
 pub mod Changes
 pub mod Judged
 pub mod Moves
+pub mod Numbers
 pub mod Order
 pub mod Rules
 pub mod Seats

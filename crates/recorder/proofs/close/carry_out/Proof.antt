@@ -1,87 +1,128 @@
-use Prim.Native.Nat.{ℕ}
-use mathlib.Core.Path.{_∙_, ap}
-use mathlib.Core.List.{List, []}
+use Prim.Native.Nat.{ℕ, _*_}
+use mathlib.Core.Path.{_≡_, refl, _∙_, sym, ap, subst}
+use mathlib.Core.List.{List}
 use native.Mathlib.Omega.{arith}
 use borrow.Author.Needs.{needs}
 use lib.ListN.{length}
+use Rattle.octets.specs.Flagging.{length-flags}
+use Rattle.octets.specs.Flags.{flags}
 use Rattle.octets.specs.Number.{Octets}
 use Rattle.octets.specs.Part.{lay}
+use Rattle.slots.specs.Numbers.{pagesOf}
 use Rattle.ledger.specs.Flagged.{others}
-use Rattle.ledger.specs.Renewed.{settled}
+use Rattle.ledger.specs.Renewed.{Settles, settled}
 use Rattle.ledger.specs.View.{entriesIn}
-use Rattle.recorder.specs.Outcome.{lent}
+use Rattle.recorder.specs.Carried.{Carries}
+use Rattle.recorder.specs.Handed.{handed, filed}
+use Rattle.recorder.specs.Planned.{Lists}
 use Rattle.recorder.specs.World.{World}
-use Rattle.recorder.proofs.Carrying.{Summed, Left, Anew, limited, places-below, can-settle, can-put, put-anew, few-after, small-after, long-after, pages-after, front-in, carried}
+use Rattle.recorder.proofs.Carrying.{Summed, Left, Anew, limited, flags-enough, places-below, can-settle, can-put, put-anew, few-after, long-after, pages-after, front-in, carried}
 use Rattle.recorder.proofs.close.carry_out.Statement.{statement}
 use Rattle.recorder.proofs.close.carry_out.Tie as tie
 
-abbrev world : tie.Start → List ℕ → World
-world c kinds = lent (c .args .state) (c .args .ledger .now) (c .args .base .now) (c .args .side .now) (c .args .buffer .now) kinds
+-- each call behind what the next one is asked, and the start behind the first; there the ledger is known to be of bytes
+abbrev owned : tie.After-wide → tie.After-slice-known
+owned c = c .before .before .before .before .before .before
 
-abbrev start : tie.After-settle → tie.Start
-start c = c .before .before .before .before .before .before .before .before .before .before
+abbrev start : tie.After-wide → tie.Start
+start c = owned c .before
 
-left : (c : tie.After-settle) (kinds : List ℕ) → Left (world (start c) kinds) (start c .args .going .now) (start c .args .tick) (c .settle .result) (c .settle .last .0)
-left c kinds =
-    let a = start c .args in
+abbrev settles : tie.After-sums → tie.After-settle
+settles c = c .before .before .before .before
+
+abbrev images : tie.After-sums2 → tie.After-write-images
+images c = c .before .before .before .before
+
+abbrev puts : tie.After-write-due-arg2 → tie.After-put-all
+puts c = c .before .before .before .before
+
+abbrev due : tie.After-write-front-arg2 → tie.After-write-due
+due c = c .before .before .before .before
+
+-- the checksums and the side file once the images are written
+abbrev sums : tie.After-write-images → List ℕ
+sums c = c .write-images .last .1 .1 .1 .1 .1 .1 .1 .0
+
+abbrev imaged : tie.After-write-images → List ℕ
+imaged c = c .write-images .last .1 .1 .1 .0
+
+-- the world that is closed, and the lists of its plan
+abbrev world : tie.Start → World → World
+world s w =
+    let a = s .args in
+    filed (a .base .now) (a .side .now) (a .buffer .now) (handed (a .settings) (a .end) (a .entries) (pagesOf (a .seats .now)) (a .ledger .now) w)
+
+abbrev lists : tie.Start → Lists
+lists s =
+    let a = s .args in
+    record { count = a .count; pages = a .pages .now; places = a .places .now; entered = a .entered .now; going = flags (a .going .now) }
+
+-- what is known after each call
+left : (c : tie.After-settle) (w : World)
+    → Left (world (start (c .before)) w) (start (c .before) .args .tick) (lists (start (c .before))) (c .settle .result) (c .settle .last .0)
+left c w =
+    let a = start (c .before) .args in
     let n = c .before .wide .ensures .0 in
     record {
-      count = c .settle .ensures .0 ∙ ap (λ (m : ℕ). length (others (a .going .now) (entriesIn m (a .ledger .now)))) n;
-      bytes = c .settle .ensures .1 ∙ ap (λ (m : ℕ). lay (a .ledger .now) 0 (settled (a .state .settings) (a .ledger .now) m (a .going .now) (a .tick))) n;
+      count = c .settle .ensures .0 ∙ ap (λ (m : ℕ). length (others (flags (a .going .now)) (entriesIn m (a .ledger .now)))) n;
+      bytes = c .settle .ensures .1 ∙ ap (λ (m : ℕ). lay (a .ledger .now) 0 (settled (a .settings) (a .ledger .now) m (flags (a .going .now)) (a .tick))) n;
     }
 
-abbrev gone : tie.After-write-images → tie.After-settle
-gone c = c .before .before .before .before
+abbrev first : tie.After-write-images → tie.Start
+first c = start (settles (c .before) .before)
 
-summed : (c : tie.After-write-images) (kinds : List ℕ)
-    → Summed (world (start (gone c)) kinds) (start (gone c) .args .plan) (start (gone c) .args .going .now) (start (gone c) .args .tick) (c .write-images .result)
+summed : (c : tie.After-write-images) (w : World) → Carries (world (first c) w) (first c .args .tick) (lists (first c))
+    → Summed (world (first c) w) (first c .args .tick) (lists (first c)) (sums c)
 unfolding Octets
-summed c kinds =
+summed c w k =
     record {
-      carries = start (gone c) .pre kinds;
-      octets = λ i. gone c .before .before .before .before .before .before .before .before .before .slice-known .given i .fits;
+      carries = k;
+      octets = λ i. owned (settles (c .before) .before) .slice-known .given i .fits;
       made = c .write-images .ensures .0;
     }
 
-abbrev images : tie.After-put-all → tie.After-write-images
-images c = c .before .before .before .before
+anew : (c : tie.After-put-all) (w : World) → Carries (world (first (images (c .before))) w) (first (images (c .before)) .args .tick) (lists (first (images (c .before))))
+    → Anew (world (first (images (c .before))) w) (first (images (c .before)) .args .tick) (lists (first (images (c .before)))) (sums (images (c .before))) (c .put-all .result) (c .put-all .last .0)
+anew c w k =
+    let i = images (c .before) in
+    put-anew (summed i w k) (left (settles (i .before)) w) _ (c .put-all .ensures .0) _ (c .put-all .ensures .1)
 
-anew : (c : tie.After-put-all) (kinds : List ℕ)
-    → Anew (world (start (gone (images c))) kinds) (start (gone (images c)) .args .plan) (start (gone (images c)) .args .going .now) (start (gone (images c)) .args .tick) (images c .write-images .result)
-    (c .put-all .result) (c .put-all .last .0)
-anew c kinds = put-anew (summed (images c) kinds) (left (gone (images c)) kinds) _ (c .put-all .ensures .0) _ (c .put-all .ensures .1)
+-- by the world that is known at the start
+known : (c : tie.After-put-all)
+    → Anew (world (first (images (c .before))) (first (images (c .before)) .pre .0)) (first (images (c .before)) .args .tick) (lists (first (images (c .before)))) (sums (images (c .before))) (c .put-all .result) (c .put-all .last .0)
+known c = anew c (first (images (c .before)) .pre .0) (first (images (c .before)) .pre .1)
 
 wide-requires : tie.Need-wide-requires
 wide-requires c κs = search needs
 
 settle-requires : tie.Need-settle-requires
-settle-requires c κs = rw (c .wide .ensures .0) (can-settle (c .before .before .before .before .before .before .before .before .before .pre []))
+settle-requires c κs =
+    let k = start c .pre .1 in
+    let n = sym (c .wide .ensures .0) in
+    (subst (Settles (start c .args .settings) (start c .args .ledger .now)) n (can-settle k), omega (arith, c .wide .ensures .0, flags-enough k, length-flags (start c .args .going .now)))
 
 write-images-requires : tie.Need-write-images-requires
 write-images-requires c κs =
-    let k = c .before .before .before .before .before .before .before .before .before .before .before .before .before .pre [] in
-    (limited k, k .buffer-long, k .side-long, k .planned .most, places-below k)
+    let k = start (settles c .before) .pre .1 in
+    (limited k, k .closes .buffer-long, k .closes .side-long, k .planned .most, places-below k, k .planned .whole-pages, k .planned .whole-places, refl)
 
 put-all-requires : tie.Need-put-all-requires
-put-all-requires c κs = can-put (summed (c .before .before .before) []) (left (c .before .before .before .before .before .before .before) [])
+put-all-requires c κs =
+    let i = images c in
+    can-put (summed i (first i .pre .0) (first i .pre .1)) (left (settles (i .before)) (first i .pre .0))
 
 write-due-requires : tie.Need-write-due-requires
 write-due-requires c κs =
-    let r = anew (c .before .before .before .before) [] in
+    let r = known (puts c) in
     let k = r .summed .carries in
-    (limited k, long-after r, k .buffer-long, k .base-long, pages-after r)
+    (limited k, long-after r, k .closes .buffer-long, k .closes .base-long, pages-after r)
 
 write-front-requires : tie.Need-write-front-requires
 write-front-requires c κs =
-    let r = anew (c .before .before .before .before .before .before .before .before .before) [] in
-    let w = images (c .before .before .before .before .before .before .before .before .before) .write-images in
-    (limited (r .summed .carries), few-after r, long-after r, front-in r (w .last .1 .1 .0) (w .kept .1 .1 .0))
-
-cast-t32 : tie.Need-cast-t32
-cast-t32 c = omega (arith, small-after (anew (c .before .before .before .before .before .before .before .before .before .before .before .before .before) []))
-
-unmark-requires : tie.Need-unmark-requires
-unmark-requires c κs = search needs
+    let p = puts (due c .before) in
+    let r = known p in
+    let i = images (p .before) in
+    (limited (r .summed .carries), few-after r, long-after r, front-in r (imaged i) (i .write-images .kept .1 .1 .1 .0))
 
 same-length : tie.Need-same-length
 same-length c = search needs
@@ -93,10 +134,11 @@ same-length-3 : tie.Need-same-length-3
 same-length-3 c = search needs
 
 returns : tie.Need-returns
-returns c kinds =
-    let due = c .before .before .before .before .before .before .before .before .before .before .before .before in
-    let put = c .before .before .before .before .before .before .before .before .before .before .before .before .before .before .before .before .before in
-    carried (anew put kinds) _ (c .before .before .before .unmark .ensures) _ (due .write-due .ensures) _ (images put .write-images .ensures .1) _ (c .before .before .before .before .before .before .before .write-front .ensures)
+returns c w k =
+    let f = c .before .before in
+    let d = due (f .before) in
+    let p = puts (d .before) in
+    carried (anew p w k) _ (d .write-due .ensures) _ (images (p .before) .write-images .ensures .1) _ (f .write-front .ensures)
 
 pub carry-out-spec : {M : Type 1} → statement M
 carry-out-spec =
@@ -108,8 +150,6 @@ carry-out-spec =
     put-all-requires
     write-due-requires
     write-front-requires
-    cast-t32
-    unmark-requires
     same-length
     same-length-2
     same-length-3

@@ -1,27 +1,60 @@
+use Prim.Native.Nat.{ℕ}
 use mathlib.Core.Bool.{true}
-use mathlib.Core.List.{[]}
-use mathlib.Core.Path.{_≡_, refl, _∙_, sym, ap}
+use mathlib.Core.List.{List, []}
+use mathlib.Core.Path.{_≡_, refl, _∙_, ap}
 use native.Mathlib.Omega.{arith}
 use borrow.Author.Needs.{needs}
-use borrow.Author.Tests.{not-true, not-false}
 use Rattle.units.specs.Tests.{passes}
-use Rattle.recorder.specs.Outcome.{lent}
-use Rattle.recorder.specs.World.{World, accept}
-use Rattle.recorder.proofs.Ending.{early, close-refused, close-passes, close-short, close-done, close-stands, close-low, rules-alone, told, can-carry}
+use Rattle.recorder.specs.Carried.{Closes, Ended}
+use Rattle.recorder.specs.Close.{openTick, suffices}
+use Rattle.recorder.specs.Outcome.{lent, answered}
+use Rattle.recorder.specs.World.{World}
+use Rattle.recorder.specs.declared.Answer.{Answer}
+use Rattle.recorder.proofs.Ending.{early, close-refused, close-passes, close-low, can-close, ended-refused, ended-done}
 use Rattle.recorder.proofs.close.close.Statement.{statement}
 use Rattle.recorder.proofs.close.close.Tie as tie
+
+-- the start behind the tests; the tests behind the rest of the close, and this behind its ends
+abbrev start : tie.After-closes → tie.Start
+start c = c .before .before .before .before .before .before .before .before .before
+
+abbrev tested : tie.After-closing-arg3 → tie.Else1
+tested c = c .before .before .before .before .before .before .before
+
+abbrev closing : tie.After-slice-known6 → tie.After-closing
+closing c = c .before .before .before .before .before .before
+
+abbrev accepted : tie.After-accepted → tie.Else2
+accepted c = c .before .before .before .before .before
+
+-- the slices as the close left them
+abbrev ledger : tie.After-closing → List ℕ
+ledger c = c .closing .last .1 .1 .1 .1 .1 .1 .0
+
+abbrev base : tie.After-closing → List ℕ
+base c = c .closing .last .1 .1 .1 .1 .1 .1 .1 .0
+
+abbrev side : tie.After-closing → List ℕ
+side c = c .closing .last .1 .1 .1 .1 .1 .1 .1 .1 .0
 
 abbrev world : tie.Start → World
 world c = lent (c .args .state) (c .args .ledger .now) (c .args .base .now) (c .args .side .now) (c .args .buffer .now) (c .args .kinds .now)
 
-abbrev start : tie.Else1 → tie.Start
-start c = c .before .before .before .before .before .before .before .before .before .before
+passed : (c : tie.Else1) → passes (early (world (start (c .before)))) ≡ true
+passed c = close-passes (world (start (c .before))) (c .before .closes .result) (c .before .closes .ensures) (c .if1 .left)
 
-passed : (c : tie.Else1) → passes (early (world (start c))) ≡ true
-passed c = close-passes (world (start c)) (c .before .closes .result) (c .before .closes .ensures) (c .if1 .left)
+may : (c : tie.Else1) → Closes (world (start (c .before))) (openTick (world (start (c .before))))
+may c = can-close (world (start (c .before))) (passed c) _ refl
+
+done : (c : tie.After-closing) → (let w = world (start (tested (c .before) .before)) in
+    Ended (suffices w) w (c .closing .result) (ledger c) (base c) (side c))
+done c = c .closing .ensures (world (start (tested (c .before) .before))) (may (tested (c .before)))
 
 closes-requires : tie.Need-closes-requires
 closes-requires c κs = search needs
+
+refused-requires : tie.Need-refused-requires
+refused-requires c κs = search needs
 
 same-length : tie.Need-same-length
 same-length c = search needs
@@ -33,16 +66,22 @@ same-length-3 : tie.Need-same-length-3
 same-length-3 c = search needs
 
 returns : tie.Need-returns
-returns c = close-refused (world (c .before .before .before .before .before .before .before .before .before .before)) (c .before .closes .result) (c .before .closes .ensures) (c .if1 .taken)
+returns c =
+    let t = c .before .before in
+    let a = start t .args in
+    ap (λ (x : Answer). answered x (a .ledger .now) (a .base .now) (a .side .now) (a .buffer .now) (a .kinds .now) []) (c .refused .ensures)
+    ∙ close-refused (world (start t)) (t .closes .result) (t .closes .ensures) (c .before .if1 .taken)
 
-add-t19 : tie.Need-add-t19
-add-t19 c = omega (arith, close-low (world (start (c .before))) (passed (c .before)))
+add-t20 : tie.Need-add-t20
+add-t20 c = omega (arith, close-low (world (start (c .before .before))) (passed (c .before)))
 
-of-close-requires : tie.Need-of-close-requires
-of-close-requires c κs =
-    let e = c .before .before .before in
-    let a = start e .args in
-    (rules-alone (a .state) (a .ledger .now) (a .base .now) (a .side .now) (a .buffer .now) (a .kinds .now) (close-stands (world (start e)) (passed e) .ruled), refl, refl)
+closing-requires : tie.Need-closing-requires
+closing-requires c κs =
+    let t = tested c in
+    (world (start (t .before)), may t)
+
+refused-requires-2 : tie.Need-refused-requires-2
+refused-requires-2 c κs = search needs
 
 same-length-4 : tie.Need-same-length-4
 same-length-4 c = search needs
@@ -55,18 +94,17 @@ same-length-6 c = search needs
 
 returns-2 : tie.Need-returns-2
 returns-2 c =
-    let e = c .before .before .before .before .before .before in
-    let a = start e .args in
-    let p = c .before .before .of-close in
-    close-short (world (start e)) (passed e)
-    (sym (told (a .state) (a .ledger .now) (a .base .now) (a .side .now) (a .buffer .now) (a .kinds .now) (p .result) (p .last .1 .1 .1 .0) (p .ensures)) ∙ not-true _ (c .if2 .taken))
+    let k = closing (c .before .before .before) in
+    let t = tested (k .before) in
+    let a = start (t .before) .args in
+    ap (λ (x : Answer). answered x (ledger k) (base k) (side k) (a .buffer .now) (a .kinds .now) []) (c .refused2 .ensures)
+    ∙ ended-refused (world (start (t .before))) (k .closing .result) (ledger k) (base k) (side k) (passed t) (done k) (c .before .if2 .taken)
 
-carry-out-requires : tie.Need-carry-out-requires
-carry-out-requires c κs =
-    let e = c .before .before .before .before .before .before .before .before .before .before in
-    let a = start e .args in
-    let p = c .before .before .before .before .before .before .of-close in
-    can-carry (a .state) (a .ledger .now) (a .base .now) (a .side .now) (a .buffer .now) (a .kinds .now) (passed e) (p .result) (p .last .1 .1 .1 .0) (p .ensures) (not-false _ (c .before .before .before .before .if2 .left))
+unmark-requires : tie.Need-unmark-requires
+unmark-requires c κs = search needs
+
+accepted-requires : tie.Need-accepted-requires
+accepted-requires c κs = search needs
 
 same-length-7 : tie.Need-same-length-7
 same-length-7 c = search needs
@@ -79,29 +117,32 @@ same-length-9 c = search needs
 
 returns-3 : tie.Need-returns-3
 returns-3 c =
-    let e = c .before .before .before .before .before .before .before .before .before .before .before .before .before .before .before .before .before in
-    let a = start e .args in
-    let p = c .before .before .before .before .before .before .before .before .before .before .before .before .before .of-close in
-    ap (λ (w : World). accept w []) (c .before .before .before .before .before .before .carry-out .ensures (a .kinds .now))
-    ∙ close-done (world (start e)) (passed e)
-    (sym (told (a .state) (a .ledger .now) (a .base .now) (a .side .now) (a .buffer .now) (a .kinds .now) (p .result) (p .last .1 .1 .1 .0) (p .ensures)) ∙ not-false _ (c .before .before .before .before .before .before .before .before .before .before .before .if2 .left))
+    let e = accepted c in
+    let k = closing (e .before .before) in
+    let t = tested (k .before) in
+    let a = start (t .before) .args in
+    ap (λ (x : Answer). answered x (ledger k) (base k) (side k) (a .buffer .now) (a .kinds .now) []) (c .accepted .ensures)
+    ∙ ended-done (world (start (t .before))) (k .closing .result) (ledger k) (base k) (side k) (passed t) (done k) (e .if2 .left) _ refl _ (c .before .before .before .before .unmark .ensures)
 
 pub close-spec : {M : Type 1} → statement M
 close-spec =
     tie.close
     (tie.spec
     closes-requires
+    refused-requires
     same-length
     same-length-2
     same-length-3
     returns
-    add-t19
-    of-close-requires
+    add-t20
+    closing-requires
+    refused-requires-2
     same-length-4
     same-length-5
     same-length-6
     returns-2
-    carry-out-requires
+    unmark-requires
+    accepted-requires
     same-length-7
     same-length-8
     same-length-9

@@ -15,20 +15,28 @@ use Rattle.ledger.specs.View.{indexed, entriesIn}
 use Rattle.recorder.proofs.front.write_front.Statement.{statement}
 use Rattle.recorder.proofs.front.write_front.Tie as tie
 
+-- the index behind what the seal is asked; the start behind the index
+abbrev index : tie.After-seal-arg → tie.After-write-index
+index c = c .before .before .before
+
+abbrev start : tie.After-write-index → tie.Start
+start c = c .before .before .before .before
+
 write-index-requires : tie.Need-write-index-requires
 write-index-requires c κs = search needs
 
 cast-seal : tie.Need-cast-seal
 cast-seal c =
-    let s = c .before .before .before .before .before .before .before in
+    let s = start (index c) in
     let m = entries-most (s .args .settings) (limits-within (s .args .settings) (s .pre .0)) in
     search needs
 
 seal-requires : tie.Need-seal-requires
 unfolding indexEnd
 seal-requires c κs =
-    let s = c .before .before .before .before .before .before .before in
-    rw (c .before .before .before .write-index .ensures, length-lay) (omega (arith, s .pre .1, s .pre .3))
+    let s = start (index c) in
+    let l : length (index c .write-index .last .1 .1 .1 .0) ≡ length (s .args .side .now) = ap length (index c .write-index .ensures) ∙ length-lay _ _ _ in
+    omega (arith, l, s .pre .1, s .pre .3)
 
 same-length : tie.Need-same-length
 same-length c = search needs
@@ -36,8 +44,8 @@ same-length c = search needs
 returns : tie.Need-returns
 unfolding indexEnd
 returns c =
-    let l = c .before .before .before .before .before .before in
-    let s = l .before .before .before .before in
+    let l = index (c .before .before .before) in
+    let s = start l in
     let a = s .args in
     let ys : List IndexEntry = map indexed (entriesIn (a .n) (a .ledger .now)) in
     let k : length ys ≡ a .n = length-map (entriesIn (a .n) (a .ledger .now)) indexed ∙ length-entriesIn (a .n) (a .ledger .now) in

@@ -1,27 +1,47 @@
-use Prim.Native.Nat.{_+_}
+use Prim.Native.Nat.{ℕ, _+_}
 use mathlib.Core.Path.{_≡_}
 use mathlib.Core.Bool.{Bool, _&&_}
-use mathlib.Core.List.{[]}
+use mathlib.Core.List.{List}
 use native.Mathlib.Omega.{arith}
 use lib.Dec.{eqb, leb}
 use lib.ListN.{length}
 use borrow.Author.Needs.{needs}
-use borrow.Author.Tests.{eq-eqb, ne-eqb}
-use Rattle.lists.specs.Maps.{length-mapped}
+use Rattle.octets.specs.Flags.{flags}
 use Rattle.units.specs.Sizes.{entries}
-use Rattle.recorder.specs.Outcome.{lent}
-use Rattle.recorder.specs.Planned.{Planned}
+use Rattle.slots.specs.Numbers.{pagesOf}
+use Rattle.recorder.specs.Handed.{handed, flagged}
+use Rattle.recorder.specs.Planned.{Lists, PlansTo}
 use Rattle.recorder.specs.World.{World}
-use Rattle.recorder.proofs.Planning.{Asked, asked, plans}
+use Rattle.recorder.proofs.Planning.{Asked, Answers, asked, going-whole, going-bytes, enough-rows, enough-not, plans}
 use Rattle.recorder.proofs.plan.of_close.Statement.{statement}
 use Rattle.recorder.proofs.plan.of_close.Tie as tie
 
--- the world of the plan, and what its rules give
-abbrev given : tie.Start → World
-given s = lent (s .args .state) (s .args .ledger .now) [] [] [] []
+-- each call behind the next, and the start behind the first
+abbrev start : tie.After-wide → tie.Start
+start c = c .before .before .before
 
-ruled : (s : tie.Start) → Asked (given s)
-ruled s = asked (given s) (s .pre .0)
+abbrev counted : tie.After-changed-pages → tie.After-wide
+counted c = c .before .before .before
+
+abbrev listed : tie.After-free-places → tie.After-changed-pages
+listed c = c .before .before
+
+abbrev freed : tie.After-retiring-rows-arg3 → tie.After-free-places
+freed c = c .before .before .before .before
+
+abbrev left : tie.After-staying-arg → tie.After-retiring-rows
+left c = c .before .before .before
+
+-- the bytes of the flags, once they are set
+abbrev going : tie.After-retiring-rows → List ℕ
+going c = c .retiring-rows .last .1 .1 .1 .1 .1 .1 .0
+
+-- the world of the plan; what its rules give, by the world that is known at the start
+abbrev given : tie.Start → World → World
+given s w = let a = s .args in handed (a .settings) (a .end) (a .entries) (pagesOf (a .seats .now)) (a .ledger .now) (flagged (a .changed .now) w)
+
+ruled : (c : tie.After-wide) → Asked (given (start c) (start c .pre .1 .0)) (c .wide .result)
+ruled c = asked (given (start c) (start c .pre .1 .0)) (start c .pre .1 .1 .0) (c .wide .result) (c .wide .ensures .0)
 
 wide-requires : tie.Need-wide-requires
 wide-requires c κs = search needs
@@ -30,70 +50,95 @@ wide-requires-2 : tie.Need-wide-requires-2
 wide-requires-2 c κs = search needs
 
 changed-pages-requires : tie.Need-changed-pages-requires
-changed-pages-requires c κs = omega (arith, ruled (c .before .before .before .before .before) .slots, c .wide2 .ensures .0)
+changed-pages-requires c κs =
+    let n = c .before .before in
+    (omega (arith, ruled n .slots, c .before .wide2 .ensures .0), start n .pre .0 .1)
 
 free-places-requires : tie.Need-free-places-requires
 free-places-requires c κs =
-    let q = ruled (c .before .before .before .before .before .before .before) in
-    let n = c .before .before .before .before .wide .ensures .0 in
-    (q .limited, q .long, rw n (q .counted), rw n (q .placed), c .before .changed-pages .ensures .0)
+    let n = counted (c .before) in
+    let q = ruled n in
+    (q .limited, q .long, q .counted, q .placed, c .before .changed-pages .ensures .0, start n .pre .0 .2)
 
 wait-requires : tie.Need-wait-requires
 wait-requires c κs = search needs
 
 retiring-rows-requires : tie.Need-retiring-rows-requires
 retiring-rows-requires c κs =
-    let s = c .before .before .before .before .before .before .before .before .before .before in
-    let q = ruled s in
-    let n = c .before .before .before .before .before .before .before .wide .ensures .0 in
-    (rw n (q .rows), rw n (q .few), c .before .before .before .before .changed-pages .ensures .0, rw n (q .ascends), s .pre .2)
+    let p = listed (freed c) in
+    let n = counted p in
+    let q = ruled n in
+    (q .rows, q .few, p .changed-pages .ensures .1, p .changed-pages .ensures .0, q .ascends, start n .pre .0 .0, start n .pre .0 .3)
+
+-- the flags are as many as they were
+bytes : (c : tie.After-retiring-rows) → length (going c) ≡ length (start (counted (listed (freed (c .before)))) .args .going .now)
+bytes c = c .retiring-rows .kept .1 .1 .1 .1 .1 .1 .0
 
 staying-requires : tie.Need-staying-requires
-staying-requires c κs = rw (c .before .before .before .before .before .before .before .before .before .wide .ensures .0) (ruled (c .before .before .before .before .before .before .before .before .before .before .before .before) .few)
+staying-requires c κs =
+    let n = counted (listed (freed (left c .before))) in
+    omega (arith, ruled n .few, going-bytes (start n .args .going .now) (going (left c)) (start n .pre .0 .0) (bytes (left c)))
 
 add-later : tie.Need-add-later
 add-later c = search needs
 
 entries-requires : tie.Need-entries-requires
-entries-requires c κs = ruled (c .before .before .before .before .before .before .before .before .before .before .before .before .before .before .before) .limited
+entries-requires c κs = ruled (counted (listed (freed (left (c .before .before) .before)))) .limited
 
-long : (c : tie.After-pages) → length (c .before .changed-pages .result .pages) ≡ 16
-long c = search (needs, length-mapped)
+-- what stands in the lists then
+abbrev lists : tie.After-retiring-rows → Lists
+lists c =
+    let f = freed (c .before) in
+    record {
+      count = listed f .changed-pages .result;
+      pages = listed f .changed-pages .last .1 .1 .1 .1 .0;
+      places = f .free-places .last .1 .1 .1 .1 .1 .0;
+      entered = c .retiring-rows .last .1 .1 .1 .1 .1 .1 .1 .0;
+      going = flags (going c);
+    }
 
 -- the plan, by its answer whether there is enough
-made : (c : tie.After-given) (enough : Bool)
-    → enough
-    ≡ (eqb (c .before .before .before .before .before .before .free-places .result .count) (c .before .before .before .before .before .before .before .before .changed-pages .result .count)
-    && leb (c .before .staying .result + c .before .before .before .before .before .before .before .before .changed-pages .result .count)
-    (entries (c .before .before .before .before .before .before .before .before .before .before .before .before .before .before .args .state .settings)))
-    → Planned (given (c .before .before .before .before .before .before .before .before .before .before .before .before .before .before))
+made : (c : tie.After-staying) (w : World) (enough : Bool)
+    → (let r = left (c .before) in
+    enough
+    ≡ (eqb (freed (r .before) .free-places .result) (lists r .count) && leb (c .staying .result + lists r .count) (entries (start (counted (listed (freed (r .before)))) .args .settings))))
+    → (let r = left (c .before) in
+    PlansTo (given (start (counted (listed (freed (r .before))))) w) (start (counted (listed (freed (r .before)))) .args .tick) enough (lists r))
+made c w enough e =
+    let r = left (c .before) in
+    let f = freed (r .before) in
+    let p = listed f in
+    let n = counted p in
+    let s = start n in
+    plans (given s w) (s .args .tick) (n .wide .result) (p .before .before .wide2 .result) (r .before .before .before .wait .result) (f .free-places .result) (c .staying .result) (lists r)
     (record {
-      enough = enough;
-      count = c .before .before .before .before .before .before .before .before .changed-pages .result .count;
-      pages = c .before .before .before .before .before .before .before .before .changed-pages .result .pages;
-      places = c .before .before .before .before .before .before .free-places .result .places;
-      entered = c .before .before .before .retiring-rows .result;
+      rows = n .wide .ensures .0;
+      slots = p .before .before .wide2 .ensures .0;
+      waits = r .before .before .before .wait .ensures;
+      most = p .changed-pages .ensures .0;
+      listed = p .changed-pages .ensures .2;
+      freed = f .free-places .ensures .0;
+      given = f .free-places .ensures .1;
+      flagged = r .retiring-rows .ensures .0;
+      came = r .retiring-rows .ensures .1;
+      stays = c .staying .ensures .0;
+      whole-pages = p .changed-pages .ensures .1;
+      whole-places = f .free-places .ensures .2;
+      whole-going = going-whole (s .args .going .now) (going r) (s .pre .0 .0) (bytes r);
     })
-    (c .before .before .before .retiring-rows .last .1 .1 .1 .1 .1 .1 .0)
-made c enough e =
-    let g = c .before .before .before in
-    let f = g .before .before .before in
-    let p = f .before .before in
-    let n = p .before .before .before in
-    let s = n .before .before .before in
-    plans (given s) (s .pre .0) _ (g .retiring-rows .last .1 .1 .1 .1 .1 .1 .0) (s .args .tick) (n .wide .result) (p .before .wide2 .result) (g .before .before .wait .result)
-    (f .free-places .result .count) (c .before .staying .result)
-    (s .pre .1) (n .wide .ensures .0) (p .before .wide2 .ensures .0) (g .before .before .wait .ensures)
-    (long (f .before)) (p .changed-pages .ensures .0) (p .changed-pages .ensures .1)
-    (f .free-places .ensures .0) (f .free-places .ensures .1)
-    (g .retiring-rows .ensures .0) (g .retiring-rows .ensures .1)
-    (c .before .staying .ensures .0) e
+    enough e
+
+same-length : tie.Need-same-length
+same-length c = search needs
 
 returns : tie.Need-returns
-returns c = made (c .before .before) _ (rw (eq-eqb _ _ (c .before .if1 .taken), c .entries .ensures .0))
+returns c w = made (c .before .before) w _ (enough-rows _ _ _ _ _ (c .before .if1 .taken) (c .entries .ensures .0))
+
+same-length-2 : tie.Need-same-length-2
+same-length-2 c = search needs
 
 returns-2 : tie.Need-returns-2
-returns-2 c = made (c .before) _ (rw (ne-eqb _ _ (c .if1 .left)))
+returns-2 c w = made (c .before) w _ (enough-not _ _ _ (c .if1 .left))
 
 pub of-close-spec : {M : Type 1} → statement M
 of-close-spec =
@@ -108,5 +153,7 @@ of-close-spec =
     staying-requires
     add-later
     entries-requires
+    same-length
     returns
+    same-length-2
     returns-2)

@@ -1,13 +1,29 @@
-use mathlib.Core.Path.{_∙_, sym, ap}
+use mathlib.Core.List.{[]}
+use mathlib.Core.Option.{some}
+use mathlib.Core.Path.{_≡_, _∙_, sym, ap}
 use native.Mathlib.Omega.{arith}
 use borrow.Author.Needs.{needs}
-use Rattle.units.specs.Bounds.{limits-within, pages-most}
+use Rattle.units.specs.Bounds.{limits-within}
 use Rattle.slots.specs.Answers.{toOption}
-use Rattle.slots.specs.Sits.{slot-found}
-use Rattle.recorder.specs.Stretches.{stretchAt, stretchFor}
-use Rattle.recorder.specs.World.{slotFor}
+use Rattle.slots.specs.Numbers.{pagesOf, tableOf}
+use Rattle.slots.specs.Table.{slotOf}
+use Rattle.recorder.specs.Stretches.{stretchAt}
+use Rattle.recorder.proofs.Copying.{stretch-found, stretch-none, stretch-fits}
 use Rattle.recorder.proofs.stores.stretch_of.Statement.{statement}
 use Rattle.recorder.proofs.stores.stretch_of.Tie as tie
+
+-- where a slot was found, and where none was: the search before it; and the start
+abbrev found : tie.After-known-told → tie.After-slot-in
+found c = c .before .before .before
+
+abbrev none : tie.After-enum-told → tie.After-slot-in
+none c = c .before .before
+
+abbrev start : tie.After-slot-in → tie.Start
+start c = c .before .before .before
+
+sits : (c : tie.After-known-told) → slotOf (found c .before .wide2 .result) (tableOf (pagesOf (start (found c) .args .seats .now)) []) (start (found c) .args .page .0) ≡ some (c .before .i .given .0 .0)
+sits c = sym (found c .slot-in .ensures) ∙ ap toOption (c .before .i .given .1)
 
 wide-requires : tie.Need-wide-requires
 wide-requires c κs = search needs
@@ -15,31 +31,34 @@ wide-requires c κs = search needs
 wide-requires-2 : tie.Need-wide-requires-2
 wide-requires-2 c κs = search needs
 
-slot-of-requires : tie.Need-slot-of-requires
-slot-of-requires c κs = omega (arith, c .wide2 .ensures .0, limits-within (c .before .before .before .args .state .settings) (c .before .before .before .pre) .slots-most)
+slot-in-requires : tie.Need-slot-in-requires
+slot-in-requires c κs = omega (arith, c .wide2 .ensures .0, limits-within (c .before .before .args .settings) (c .before .before .pre) .slots-most)
 
 enum-known-i : tie.Need-enum-known-i
 enum-known-i c = search needs
 
 mul-t9 : tie.Need-mul-t9
 mul-t9 c =
-    let a = c .before .before .before .before .before .before .before in
-    let w = limits-within (a .args .state .settings) (a .pre) in
-    let i = c .before .i .given .0 .0 in
-    let f = slot-found (c .before .before .before .before .wide2 .result) (a .args .state .slots) (a .args .page .0) i (sym (c .before .before .before .slot-of .ensures) ∙ ap toOption (c .before .i .given .1)) in
-    let e = c .before .before .before .before .before .before .wide .ensures .0 in
-    rw e (omega (arith, pages-most (a .args .state .settings) w i 16 (omega (arith, f .0, c .before .before .before .before .wide2 .ensures .0, w .slots-most))))
+    let s = found c in
+    let a = start s .args in
+    omega (arith, stretch-fits (a .settings) (pagesOf (a .seats .now)) (a .page .0) _ _ (s .before .before .wide .ensures .0) (s .before .wide2 .ensures .0) (start s .pre) _ (sits c))
 
 enum-told : tie.Need-enum-told
 enum-told c = search needs
 
 returns : tie.Need-returns
-unfolding stretchFor stretchAt slotFor
-returns c = rw (c .before .before .before .before .before .before .wide .ensures .0, ← c .before .before .before .before .wide2 .ensures .0, sym (c .before .before .before .slot-of .ensures) ∙ ap toOption (c .before .i .given .1))
+unfolding stretchAt
+returns c =
+    let s = found c in
+    let a = start s .args in
+    stretch-found (a .settings) (pagesOf (a .seats .now)) (a .page .0) _ _ (s .before .before .wide .ensures .0) (s .before .wide2 .ensures .0) _ (sits c)
 
 returns-2 : tie.Need-returns-2
-unfolding stretchFor stretchAt slotFor
-returns-2 c = rw (← c .before .before .before .wide2 .ensures .0, sym (c .before .before .slot-of .ensures) ∙ ap toOption (c .enum-told .given .1))
+unfolding stretchAt
+returns-2 c =
+    let s = none c in
+    let a = start s .args in
+    stretch-none (a .settings) (pagesOf (a .seats .now)) (a .page .0) _ _ (s .before .before .wide .ensures .0) (s .before .wide2 .ensures .0) (sym (s .slot-in .ensures) ∙ ap toOption (c .enum-told .given .1))
 
 pub stretch-of-spec : {M : Type 1} → statement M
 stretch-of-spec =
@@ -47,7 +66,7 @@ stretch-of-spec =
     (tie.spec
     wide-requires
     wide-requires-2
-    slot-of-requires
+    slot-in-requires
     enum-known-i
     mul-t9
     enum-told

@@ -1,58 +1,66 @@
 use Prim.Native.Nat.{_+_, _-_, _<_, _≤_}
 use mathlib.Core.Path.{_≡_, refl, _∙_, sym}
-use mathlib.Core.List.{[]}
 use native.Mathlib.Omega.{arith}
 use borrow.Author.Needs.{needs}
-use lib.ListN.{length, take, replicate, length-set}
-use Rattle.lists.specs.Maps.{length-mapped}
-use Rattle.units.specs.Pages.{numbersOf}
-use Rattle.sidefile.specs.Encode.{checksum}
-use Rattle.recorder.specs.Outcome.{lent}
+use lib.ListN.{length, take, length-set}
+use Rattle.slots.specs.Numbers.{pagesOf}
+use Rattle.recorder.specs.Handed.{shown}
 use Rattle.recorder.specs.Stretches.{imagesLaid, imageSums}
-use Rattle.recorder.proofs.Copying.{copied, copied-in, copied-most, copied-sum, place-in, images-none, images-next, sums-none, sums-next, place-get}
+use Rattle.recorder.specs.World.{World}
+use Rattle.recorder.proofs.Copying.{copied-in, copied-most, copied-sum, place-in, place-get, images-none, image-laid, sums-none, sums-next}
 use Rattle.recorder.proofs.stores.write_images.Statement.{statement}
 use Rattle.recorder.proofs.stores.write_images.Tie as tie
 
 abbrev Inv-loop : tie.InvT-loop
-Inv-loop state buffer side₀ count pages places settings sums₀ j₀ side sums j =
+Inv-loop settings seats buffer side₀ pages places count sums₀ j₀ side sums j =
     (j ≤ count)
     × (count ≤ 16)
-    × (length pages ≡ 16)
-    × (length places ≡ 16)
     × (length sums ≡ 16)
     × (length side ≡ length side₀)
-    × (take j sums ≡ imageSums (lent state [] [] [] buffer []) (numbersOf j pages))
-    × (side ≡ imagesLaid (lent state [] [] [] buffer []) pages places j side₀)
+    × (take j sums ≡ imageSums (shown settings (pagesOf seats) buffer) (take j pages))
+    × (side ≡ imagesLaid (shown settings (pagesOf seats) buffer) pages places j side₀)
 
 abbrev μ-loop : tie.MeasureT-loop
-μ-loop state buffer side₀ count pages places settings sums₀ j₀ side sums j = count - j
+μ-loop settings seats buffer side₀ pages places count sums₀ j₀ side sums j = count - j
+
+-- the start behind a turn, and what is looked at there; the stretch behind a copy, and the turn behind a stretch
+abbrev start : tie.At-loop Inv-loop μ-loop → tie.Start Inv-loop μ-loop
+start c = c .before .before .before
+
+abbrev world : tie.Start Inv-loop μ-loop → World
+world c = shown (c .args .settings) (pagesOf (c .args .seats .now)) (c .args .buffer .now)
+
+abbrev from : tie.After-copy-arg Inv-loop μ-loop → tie.After-struct-known Inv-loop μ-loop
+from c = c .before .before .before .before .before
+
+abbrev turn : tie.After-struct-known Inv-loop μ-loop → tie.At-loop Inv-loop μ-loop
+turn c = c .before .before .before .before
 
 loop-holds : tie.Need-loop-holds Inv-loop μ-loop
 loop-holds c =
-    let a = c .before .before .before .args in (
+    let a = c .before .before in (
       search needs,
       search needs,
-      search (needs, length-mapped),
-      search (needs, length-mapped),
+      search needs,
       refl,
-      refl,
-      sums-none (lent (a .state) [] [] [] (a .buffer .now) []) (a .t4) (replicate 16 0),
-      sym (images-none (lent (a .state) [] [] [] (a .buffer .now) []) (a .t4) (a .t5) (a .side .now)),
+      sums-none (world a) (a .args .pages .now) (a .args .sums .now),
+      sym (images-none (world a) (a .args .pages .now) (a .args .places .now) (a .args .side .now)),
     )
 
-mul-stretch-of : tie.Need-mul-stretch-of Inv-loop μ-loop
-mul-stretch-of c = search needs
+mul-sums : tie.Need-mul-sums Inv-loop μ-loop
+mul-sums c = search needs
 
-array-copy-out-stretch-of : tie.Need-array-copy-out-stretch-of Inv-loop μ-loop
-array-copy-out-stretch-of c = search needs
+element-copy-out-sums : tie.Need-element-copy-out-sums Inv-loop μ-loop
+element-copy-out-sums c = search needs
 
 stretch-of-requires : tie.Need-stretch-of-requires Inv-loop μ-loop
 stretch-of-requires c κs = search needs
 
 add-end : tie.Need-add-end Inv-loop μ-loop
 add-end c =
-    let b = c .before .before .before .before .before .before .before .before in
-    omega (arith, copied-most (b .args .state) (b .args .buffer .now) _ (c .before .stretch-of .result) (c .before .stretch-of .ensures) (b .pre .0))
+    let s = start (turn c) in
+    let f = c .before .stretch-of in
+    omega (arith, copied-most (s .args .settings) (pagesOf (s .args .seats .now)) (s .args .buffer .now) _ (f .result) (f .ensures) (s .pre .0))
 
 sub-checksum : tie.Need-sub-checksum Inv-loop μ-loop
 sub-checksum c = search needs
@@ -62,36 +70,37 @@ part-checksum-start c = search needs
 
 part-checksum-end : tie.Need-part-checksum-end Inv-loop μ-loop
 part-checksum-end c =
-    let b = c .before .before .before .before .before .before .before .before in
-    omega (arith, copied-in (b .args .state) (b .args .buffer .now) _ (c .before .stretch-of .result) (c .before .stretch-of .ensures) (b .pre .1))
+    let s = start (turn c) in
+    let f = c .before .stretch-of in
+    omega (arith, copied-in (s .args .settings) (pagesOf (s .args .seats .now)) (s .args .buffer .now) _ (f .result) (f .ensures) (s .pre .1))
 
 checksum-requires : tie.Need-checksum-requires Inv-loop μ-loop
 checksum-requires c κs = search needs
 
-mul-sums : tie.Need-mul-sums Inv-loop μ-loop
-mul-sums c = search needs
+mul-sums-2 : tie.Need-mul-sums-2 Inv-loop μ-loop
+mul-sums-2 c = search needs
 
-array-write-sums : tie.Need-array-write-sums Inv-loop μ-loop
-array-write-sums c = search needs
+element-write-sums : tie.Need-element-write-sums Inv-loop μ-loop
+element-write-sums c = search needs
 
-mul-image-at : tie.Need-mul-image-at Inv-loop μ-loop
-mul-image-at c = search needs
+mul-t15 : tie.Need-mul-t15 Inv-loop μ-loop
+mul-t15 c = search needs
 
-array-copy-out-image-at : tie.Need-array-copy-out-image-at Inv-loop μ-loop
-array-copy-out-image-at c = search needs
+element-copy-out-t18 : tie.Need-element-copy-out-t18 Inv-loop μ-loop
+element-copy-out-t18 c = search needs
 
 image-at-requires : tie.Need-image-at-requires Inv-loop μ-loop
 image-at-requires c κs = search needs
 
 copy-requires : tie.Need-copy-requires Inv-loop μ-loop
 copy-requires c κs =
-    let b = c .before .before .before .before .before .before .before .before .before .before .before .before .before in
-    let l = c .before .before .before .before .before .before .before .before .before .loop in
-    let f = c .before .before .before .before .before .before .stretch-of in (
-      copied-in (b .args .state) (b .args .buffer .now) _ (f .result) (f .ensures) (b .pre .1),
-      rw (c .image-at .ensures .0)
-          (place-in (b .args .state) (b .args .buffer .now) _ (f .result) (f .ensures) (l .side) _ (omega (arith, b .pre .2, l .inv .5))
-          (place-get (b .args .count) (b .args .t5) (l .j) (omega arith) (omega (arith, l .inv .1, l .inv .3)) (b .pre .4))),
+    let f = from c .before .stretch-of in
+    let l = turn (from c) .loop in
+    let s = start (turn (from c)) in
+    let a = s .args in (
+      copied-in (a .settings) (pagesOf (a .seats .now)) (a .buffer .now) _ (f .result) (f .ensures) (s .pre .1),
+      place-in (a .settings) (pagesOf (a .seats .now)) (a .buffer .now) _ (f .result) (f .ensures) (l .side) _ _ (c .before .image-at .ensures .0) (omega (arith, s .pre .2, l .inv .3))
+          (place-get (a .count) (a .places .now) (l .j) (from c .before .before .before .loop-test .taken) (omega (arith, s .pre .3, s .pre .6)) (s .pre .4)),
     )
 
 add-j : tie.Need-add-j Inv-loop μ-loop
@@ -102,23 +111,22 @@ loop-less c = search needs
 
 loop-again : tie.Need-loop-again Inv-loop μ-loop
 loop-again c =
-    let b = c .before .before .before .before .before .before .before .before .before .before .before .before .before .before .before .before in
-    let a = b .args in
-    let l = c .before .before .before .before .before .before .before .before .before .before .before .before .loop in
-    let f = c .before .before .before .before .before .before .before .before .before .stretch-of in
-    let w = lent (a .state) [] [] [] (a .buffer .now) [] in
-    let h : l .j < a .count = c .before .before .before .before .before .before .before .before .before .before .before .loop-test .taken in (
+    let y = c .before .before .before in
+    let k = from y in
+    let f = k .before .stretch-of in
+    let l = turn k .loop in
+    let s = start (turn k) in
+    let a = s .args in
+    let h : l .j < a .count = k .before .before .before .loop-test .taken in (
       omega (arith, h),
       l .inv .1,
-      l .inv .2,
-      l .inv .3,
-      simp length-set (l .inv .4),
+      simp length-set (l .inv .2),
       search needs,
-      sums-next w (a .t4) (l .sums) (l .j) _ (l .inv .6) (omega (arith, h, l .inv .1, l .inv .4)) (omega (arith, h, l .inv .1, l .inv .2))
-          (copied-sum (a .state) (a .buffer .now) _ (f .result) (f .ensures) (f .result .start + f .result .length - f .result .start) (omega arith) _ (c .before .before .before .before .before .before .checksum .ensures)),
-      c .before .before .copy .ensures
-          ∙ rw (l .inv .7, c .before .before .before .image-at .ensures .0, copied (a .state) (a .buffer .now) _ (f .result) (f .ensures))
-          (images-next w (a .t4) (a .t5) (l .j) (a .side .now)),
+      sums-next (world s) (a .pages .now) (l .sums) (l .j) _ (l .inv .4) (omega (arith, h, l .inv .1, l .inv .2)) (omega (arith, h, l .inv .1, s .pre .5))
+          (copied-sum (a .settings) (pagesOf (a .seats .now)) (a .buffer .now) _ (f .result) (f .ensures) (f .result .start + f .result .length - f .result .start) (omega arith) _
+          (y .before .before .before .checksum .ensures)),
+      image-laid (a .settings) (pagesOf (a .seats .now)) (a .buffer .now) (a .pages .now) (a .places .now) (l .j) (f .result) (f .ensures) _ (y .before .image-at .ensures .0) (a .side .now) _ _ (l .inv .5)
+          (c .before .before .copy .ensures),
     )
 
 same-length : tie.Need-same-length Inv-loop μ-loop
@@ -126,10 +134,10 @@ same-length c = search needs
 
 returns : tie.Need-returns Inv-loop μ-loop
 returns c =
-    let a = c .before .before .before .before .before .args in
+    let a = c .before .before .before .before .args in
     let l = c .before .loop in
     let e : a .count ≡ l .j = omega arith in
-    rw e (l .inv .6, l .inv .7)
+    rw e (l .inv .4, l .inv .5)
 
 pub write-images-spec : {M : Type 1} → statement M
 write-images-spec =
@@ -138,18 +146,18 @@ write-images-spec =
     Inv-loop
     μ-loop
     loop-holds
-    mul-stretch-of
-    array-copy-out-stretch-of
+    mul-sums
+    element-copy-out-sums
     stretch-of-requires
     add-end
     sub-checksum
     part-checksum-start
     part-checksum-end
     checksum-requires
-    mul-sums
-    array-write-sums
-    mul-image-at
-    array-copy-out-image-at
+    mul-sums-2
+    element-write-sums
+    mul-t15
+    element-copy-out-t18
     image-at-requires
     copy-requires
     add-j

@@ -13,6 +13,10 @@ Inv-loop slots page self i₀ i = (i ≤ slots) × (slotOf slots self (page .0) 
 abbrev μ-loop : tie.MeasureT-loop
 μ-loop slots page self i₀ i = slots - i
 
+-- the turn behind the test of its page
+abbrev turn : tie.After-struct-known2 Inv-loop μ-loop → tie.At-loop Inv-loop μ-loop
+turn c = c .before .before .before .before
+
 loop-holds : tie.Need-loop-holds Inv-loop μ-loop
 loop-holds c = (search needs, slot-start (c .args .slots) (c .args .t1) (c .args .page .0))
 
@@ -24,7 +28,7 @@ element-copy-out-held c = search needs
 
 returns : tie.Need-returns Inv-loop μ-loop
 returns c =
-    let l = c .before .before .before .before .before in
+    let l = turn (c .before) in
     let a = l .before .args in
     sym (l .loop .inv .1 ∙ slot-here (a .slots) (a .t1) (a .page .0) (l .loop .i) (omega arith) (c .if1 .taken))
 
@@ -36,7 +40,7 @@ loop-less c = search needs
 
 loop-again : tie.Need-loop-again Inv-loop μ-loop
 loop-again c =
-    let l = c .before .before .before .before .before in
+    let l = turn (c .before) in
     let a = l .before .args in
     (search needs, l .loop .inv .1 ∙ slot-next (a .slots) (a .t1) (a .page .0) (l .loop .i) (omega arith) (c .if1 .left))
 
