@@ -1,9 +1,10 @@
 /* The deepest stack of each exported function. A call runs on a stack of its own that is filled with a pattern; what it used
- * is what differs afterwards. Two figures: the whole, from the caller's frame down, and the call's own, below the arguments and
- * the answer that a caller lays out. That share is measured by a call in the shape of close that does nothing: a state each way
- * and ten words, some 500 bytes. Each figure is the most that was met over accepted and refused calls, most of them with
- * P = 4096, S = 16, L = 8 and the 144 entries that an index can have. A call whose own stack is above 2 KiB says so, and makes
- * the exit status 1.
+ * is what differs afterwards. Two figures: the whole, from the caller's frame down, and what of it lies above the call's own
+ * stack: the arguments and the answer that a caller lays out. That share is measured by a call in the shape of close that does
+ * nothing: a state each way and ten words, some 500 bytes. Each figure is the most that was met over accepted and refused
+ * calls, most of them with P = 4096, S = 16, L = 8 and the 144 entries that an index can have. The bound is on the whole: 2 KiB,
+ * which is what the deck board has, and 1,700 bytes for a close, so that there is room for more. A call above its bound says
+ * so, and makes the exit status 1.
  *
  *     cc -O2 -Ic c/bench/stack.c ARCHIVE -o stack && ./stack          ARCHIVE: rt staticlib cabi */
 #define _DEFAULT_SOURCE
@@ -14,7 +15,7 @@
 #include <ucontext.h>
 
 enum { P = 4096, S = 16, L = 8, E = 161, END = 150, ENTRIES = (L + 1) * S, CLOSED = 20, RAW = END - 1 };
-enum { ROOM = 64 * 1024, MOST = 2048, PATTERN = 0xa5 };
+enum { ROOM = 64 * 1024, MOST = 2048, MOST_OF_CLOSE = 1700, PATTERN = 0xa5 };
 enum { SIDE = UNGLETICE_SIDE_LENGTH(P, S, L), LEDGER = UNGLETICE_LEDGER_LENGTH(S, L), HELD = UNGLETICE_HELD_LENGTH(S, L) };
 
 static _Alignas(64) uint8_t stack[ROOM];
@@ -27,6 +28,7 @@ static ungletice_settings settings = {P, S, L, E};
 static ungletice_state state;
 static uint32_t end, page, offset, kind, number;
 static size_t length, deepest, worst, share;
+static int above;
 
 /* The first byte, from the far end, that is not the pattern any more, in whole words; seen from inside, before anything else
  * runs there. */
@@ -210,13 +212,19 @@ static void asks(uint32_t of, size_t n)
     length = n;
 }
 
+static void row_within(const char *name, size_t bound)
+{
+    int is_above = deepest > bound;
+
+    printf("%-28s %6zu %6zu %6zu%s\n", name, deepest, share, bound, is_above ? "  above" : "");
+    above |= is_above;
+    worst = deepest > worst ? deepest : worst;
+    deepest = 0;
+}
+
 static void row(const char *name)
 {
-    size_t own = deepest - share;
-
-    printf("%-28s %6zu %6zu%s\n", name, deepest, own, own > MOST ? "  above" : "");
-    worst = own > worst ? own : worst;
-    deepest = 0;
+    row_within(name, MOST);
 }
 
 /* Every entry clean, then the slots' pages owed. */
@@ -254,7 +262,7 @@ static void recorder(void)
     forge(END - S - 1, 1, 1, 13), meet("close", closes, 10);
     forge(END - S - 1, 1, 1, 12), meet("close", closes, 0);
     forge(0, 1, CLOSED, CLOSED), meet("close", closes, 0);
-    row("ungletice_recorder_close");
+    row_within("ungletice_recorder_close", MOST_OF_CLOSE);
     share = 0;
 }
 
@@ -304,10 +312,10 @@ int main(void)
 {
     look_up();
     kinds[RAW] = 1;
-    printf("stack of a call, bytes        whole    own\n");
+    printf("stack of a call, bytes        whole caller  bound\n");
     recorder();
     desk();
     small();
-    printf("%-28s        %6zu of %d\n", "deepest of the calls' own", worst, MOST);
-    return worst > MOST;
+    printf("%-28s %6zu of %d\n", "deepest of all", worst, MOST);
+    return above;
 }
