@@ -12,8 +12,8 @@ use Rattle.slots.specs.declared.Slots.{Slots}
 abbrev pub pagesOf : List ℕ → List Page
 pagesOf seats = map toPage seats
 
-abbrev pub tableOf : List Page → List ℕ → Slots
-tableOf pages changed = record { pages = pages; changed = changed; order = []; used = 0 }
+abbrev pub lentTable : List Page → List ℕ → Slots
+lentTable pages changed = record { pages = pages; changed = changed; order = []; used = 0 }
 
 pub seat-is : (seats : List ℕ) (i : ℕ) → getD (pagesOf seats) i (toPage 0) .0 ≡ getD seats i 0
 seat-is seats i = ap (λ (p : Page). p .0) (List·getD-map toPage seats i 0)
