@@ -25,13 +25,14 @@ add-requires-3 c κs = search needs
 returns : tie.Need-returns
 unfolding addBlock
 returns c =
+    let d = c .before .before .before in
     rw (
       c .add3 .ensures,
       c .before .word3 .ensures,
       c .before .before .add2 .ensures,
-      c .before .before .before .word2 .ensures,
-      c .before .before .before .before .add .ensures,
-      c .before .before .before .before .before .word .ensures,
+      d .word2 .ensures,
+      d .before .add .ensures,
+      d .before .before .word .ensures,
     )
 
 pub add-block-spec : {M : Type 1} → statement M

@@ -34,13 +34,14 @@ add-requires-3 c κs = search needs
 returns : tie.Need-returns
 unfolding addBlock
 returns c =
+    let d = c .before .before .before in
     rw (
       c .add3 .ensures,
       c .before .add2 .ensures,
       c .before .before .add .ensures,
-      c .before .before .before .padded-word3 .ensures,
-      c .before .before .before .before .padded-word2 .ensures,
-      c .before .before .before .before .before .padded-word .ensures,
+      d .padded-word3 .ensures,
+      d .before .padded-word2 .ensures,
+      d .before .before .padded-word .ensures,
     )
 
 pub add-last-spec : {M : Type 1} → statement M

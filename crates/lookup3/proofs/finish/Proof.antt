@@ -28,14 +28,15 @@ xor-sub-requires-7 c κs = search needs
 returns : tie.Need-returns
 unfolding final
 returns c =
+    let d = c .before .before .before in
     rw (
       c .xor-sub7 .ensures,
       c .before .xor-sub6 .ensures,
       c .before .before .xor-sub5 .ensures,
-      c .before .before .before .xor-sub4 .ensures,
-      c .before .before .before .before .xor-sub3 .ensures,
-      c .before .before .before .before .before .xor-sub2 .ensures,
-      c .before .before .before .before .before .before .xor-sub .ensures,
+      d .xor-sub4 .ensures,
+      d .before .xor-sub3 .ensures,
+      d .before .before .xor-sub2 .ensures,
+      d .before .before .before .xor-sub .ensures,
     )
 
 pub finish-spec : {M : Type 1} → statement M

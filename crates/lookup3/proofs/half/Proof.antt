@@ -25,13 +25,14 @@ add-requires-3 c κs = search needs
 returns : tie.Need-returns
 unfolding half
 returns c =
+    let d = c .before .before .before in
     rw (
       c .add3 .ensures,
       c .before .sub-xor3 .ensures,
       c .before .before .add2 .ensures,
-      c .before .before .before .sub-xor2 .ensures,
-      c .before .before .before .before .add .ensures,
-      c .before .before .before .before .before .sub-xor .ensures,
+      d .sub-xor2 .ensures,
+      d .before .add .ensures,
+      d .before .before .sub-xor .ensures,
     )
 
 pub half-spec : {M : Type 1} → statement M

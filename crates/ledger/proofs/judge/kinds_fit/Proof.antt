@@ -23,6 +23,16 @@ Inv-loop s n kinds i₀ i = (i ≤ n) × (allOf (λ e. eqb (getD kinds (pageOf e
 abbrev μ-loop : tie.MeasureT-loop
 μ-loop s n kinds i₀ i = n - i
 
+abbrev start : tie.At-loop Inv-loop μ-loop → tie.Start Inv-loop μ-loop
+start c = c .before .before .before
+
+-- where the page of a row is read: the turn
+abbrev turn : tie.After-wide Inv-loop μ-loop → tie.At-loop Inv-loop μ-loop
+turn c = c .before .before .before
+
+read : (c : tie.After-wide Inv-loop μ-loop) → c .wide .result ≡ pageOf (entryOf (row 0 entryRow (turn c .loop .i) (start (turn c) .args .s .now)))
+read c = c .wide .ensures .0 ∙ c .before .number .ensures .0 ∙ page-column (row 0 entryRow (turn c .loop .i) (start (turn c) .args .s .now))
+
 loop-holds : tie.Need-loop-holds Inv-loop μ-loop
 loop-holds c = (search needs, refl)
 
@@ -34,18 +44,18 @@ wide-requires c κs = search needs
 
 shared-slice-read-if1 : tie.Need-shared-slice-read-if1 Inv-loop μ-loop
 shared-slice-read-if1 c =
-    let a = c .before .before .before .before .before .before .before .args in
-    let l = c .before .before .before .before .loop in
-    let e : c .before .wide .result ≡ pageOf (entryOf (row 0 entryRow (l .i) (a .s .now))) = c .before .wide .ensures .0 ∙ c .before .before .number .ensures .0 ∙ page-column (row 0 entryRow (l .i) (a .s .now)) in
-    omega (arith, every-row (a .n) (a .s .now) (l .i) (omega arith) (c .before .before .before .before .before .before .before .pre .1))
+    let t = turn (c .before) in
+    let b = start t in
+    let a = b .args in
+    omega (arith, read (c .before), every-row (a .n) (a .s .now) (t .loop .i) (omega arith) (b .pre .1))
 
 returns : tie.Need-returns Inv-loop μ-loop
 returns c =
-    let a = c .before .before .before .before .before .before .before .before .args in
-    let l = c .before .before .before .before .before .loop in
-    let e : c .before .before .wide .result ≡ pageOf (entryOf (row 0 entryRow (l .i) (a .s .now))) = c .before .before .wide .ensures .0 ∙ c .before .before .before .number .ensures .0 ∙ page-column (row 0 entryRow (l .i) (a .s .now)) in
-    let t : Entry → Bool = λ e. eqb (getD (a .kinds .now) (pageOf e) 0) 0 in
-    sym (l .inv .1 ∙ entry-stop t (a .n) (a .s .now) (l .i) (omega arith) (ne-eqb (getD (a .kinds .now) (pageOf (entryOf (row 0 entryRow (l .i) (a .s .now)))) 0) 0 (λ z. c .if1 .taken (rw e z))))
+    let t = turn (c .before .before) in
+    let a = start t .args in
+    let l = t .loop in
+    let m : Entry → Bool = λ e. eqb (getD (a .kinds .now) (pageOf e) 0) 0 in
+    sym (l .inv .1 ∙ entry-stop m (a .n) (a .s .now) (l .i) (omega arith) (ne-eqb (getD (a .kinds .now) (pageOf (entryOf (row 0 entryRow (l .i) (a .s .now)))) 0) 0 (λ z. c .if1 .taken (rw (read (c .before .before)) z))))
 
 add-i : tie.Need-add-i Inv-loop μ-loop
 add-i c = search needs
@@ -55,18 +65,18 @@ loop-less c = search needs
 
 loop-again : tie.Need-loop-again Inv-loop μ-loop
 loop-again c =
-    let a = c .before .before .before .before .before .before .before .before .args in
-    let l = c .before .before .before .before .before .loop in
-    let e : c .before .before .wide .result ≡ pageOf (entryOf (row 0 entryRow (l .i) (a .s .now))) = c .before .before .wide .ensures .0 ∙ c .before .before .before .number .ensures .0 ∙ page-column (row 0 entryRow (l .i) (a .s .now)) in
-    let t : Entry → Bool = λ e. eqb (getD (a .kinds .now) (pageOf e) 0) 0 in
-    (search needs, l .inv .1 ∙ entry-turn t (a .n) (a .s .now) (l .i) (omega arith) (eq-eqb (getD (a .kinds .now) (pageOf (entryOf (row 0 entryRow (l .i) (a .s .now)))) 0) 0 (rw (← e) (c .if1 .left))))
+    let t = turn (c .before .before) in
+    let a = start t .args in
+    let l = t .loop in
+    let m : Entry → Bool = λ e. eqb (getD (a .kinds .now) (pageOf e) 0) 0 in
+    (search needs, l .inv .1 ∙ entry-turn m (a .n) (a .s .now) (l .i) (omega arith) (eq-eqb (getD (a .kinds .now) (pageOf (entryOf (row 0 entryRow (l .i) (a .s .now)))) 0) 0 (rw (← read (c .before .before)) (c .if1 .left))))
 
 returns-2 : tie.Need-returns-2 Inv-loop μ-loop
 returns-2 c =
-    let a = c .before .before .before .before .args in
+    let a = start (c .before) .args in
     let l = c .before .loop in
-    let t : Entry → Bool = λ e. eqb (getD (a .kinds .now) (pageOf e) 0) 0 in
-    sym (l .inv .1 ∙ entry-end t (a .n) (a .s .now) (l .i) (omega arith))
+    let m : Entry → Bool = λ e. eqb (getD (a .kinds .now) (pageOf e) 0) 0 in
+    sym (l .inv .1 ∙ entry-end m (a .n) (a .s .now) (l .i) (omega arith))
 
 pub kinds-fit-spec : {M : Type 1} → statement M
 kinds-fit-spec =

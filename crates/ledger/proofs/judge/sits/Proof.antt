@@ -20,6 +20,10 @@ Inv-loop slots page seats found₀ i₀ found i = (i ≤ slots) × (found ≡ an
 abbrev μ-loop : tie.MeasureT-loop
 μ-loop slots page seats found₀ i₀ found i = slots - i
 
+-- where a seat is read: the turn
+abbrev turn : tie.After-struct-known2 Inv-loop μ-loop → tie.At-loop Inv-loop μ-loop
+turn c = c .before .before .before .before
+
 loop-holds : tie.Need-loop-holds Inv-loop μ-loop
 unfolding from anyOf
 loop-holds c = (search needs, refl)
@@ -38,8 +42,8 @@ loop-less c = search needs
 
 loop-again : tie.Need-loop-again Inv-loop μ-loop
 loop-again c =
-    let a = c .before .before .before .before .before .before .args in
-    let l = c .before .before .before .before .before .loop in
+    let a = turn (c .before) .before .args in
+    let l = turn (c .before) .loop in
     let t : ℕ → Bool = λ k. eqb (getD (a .t1) k (record { 0 = 0 }) .0) (a .page .0) in (
       search needs,
       ⊎-elim

@@ -19,6 +19,19 @@ Inv-loop s n wait closed seats slots i₀ i = (i ≤ n) × (allOf (ticksFit wait
 abbrev μ-loop : tie.MeasureT-loop
 μ-loop s n wait closed seats slots i₀ i = n - i
 
+abbrev start : tie.At-loop Inv-loop μ-loop → tie.Start Inv-loop μ-loop
+start c = c .before .before
+
+-- from each test of a row the one before it: the last change, the entry tick, the entry, the turn
+abbrev entered : tie.After-struct-known3 Inv-loop μ-loop → tie.Else1 Inv-loop μ-loop
+entered c = c .before .before
+
+abbrev read : tie.Else1 Inv-loop μ-loop → tie.After-entry-at Inv-loop μ-loop
+read c = c .before .before
+
+abbrev turn : tie.After-entry-at Inv-loop μ-loop → tie.At-loop Inv-loop μ-loop
+turn c = c .before .before
+
 loop-holds : tie.Need-loop-holds Inv-loop μ-loop
 loop-holds c = (search needs, refl)
 
@@ -27,18 +40,20 @@ entry-at-requires c κs = search needs
 
 returns : tie.Need-returns Inv-loop μ-loop
 returns c =
-    let a = c .before .before .before .before .before .before .args in
-    let l = c .before .before .before .before .loop in
-    let e = c .before .before .entry-at in
+    let r = c .before .before in
+    let a = start (turn r) .args in
+    let l = turn r .loop in
+    let e = r .entry-at in
     let seated = sits (a .slots) (a .seats) in
     let t = ticksFit (a .wait) (a .closed) seated in
     sym (l .inv .1 ∙ entry-stop t (a .n) (a .s .now) (l .i) (omega arith) (sym (ap t (e .ensures)) ∙ entered-late (a .wait) (a .closed) seated (e .result) (c .if1 .taken)))
 
 returns-2 : tie.Need-returns-2 Inv-loop μ-loop
 returns-2 c =
-    let a = c .before .before .before .before .before .before .before .before .before .args in
-    let l = c .before .before .before .before .before .before .before .loop in
-    let e = c .before .before .before .before .before .entry-at in
+    let r = read (entered (c .before)) in
+    let a = start (turn r) .args in
+    let l = turn r .loop in
+    let e = r .entry-at in
     let seated = sits (a .slots) (a .seats) in
     let t = ticksFit (a .wait) (a .closed) seated in
     sym (l .inv .1 ∙ entry-stop t (a .n) (a .s .now) (l .i) (omega arith) (sym (ap t (e .ensures)) ∙ changed-late (a .wait) (a .closed) seated (e .result) (c .if2 .taken)))
@@ -52,12 +67,14 @@ sits-requires c κs = search needs
 returns-3 : tie.Need-returns-3 Inv-loop μ-loop
 unfolding isOwed
 returns-3 c =
-    let a = c .before .before .before .before .before .before .before .before .before .before .before .before .before .args in
-    let l = c .before .before .before .before .before .before .before .before .before .before .before .loop in
-    let e = c .before .before .before .before .before .before .before .before .before .entry-at in
+    let u = c .before .before in
+    let r = read (entered (u .before .before .before)) in
+    let a = start (turn r) .args in
+    let l = turn r .loop in
+    let e = r .entry-at in
     let seated = sits (a .slots) (a .seats) in
     let t = ticksFit (a .wait) (a .closed) seated in
-    sym (l .inv .1 ∙ entry-stop t (a .n) (a .s .now) (l .i) (omega arith) (sym (ap t (e .ensures)) ∙ owed-unseated (a .wait) (a .closed) seated (e .result) (sym (c .before .before .before .owed .ensures) ∙ c .before .before .if3 .taken) (sym (c .before .sits .ensures) ∙ not-true _ (c .if4 .taken))))
+    sym (l .inv .1 ∙ entry-stop t (a .n) (a .s .now) (l .i) (omega arith) (sym (ap t (e .ensures)) ∙ owed-unseated (a .wait) (a .closed) seated (e .result) (sym (u .before .owed .ensures) ∙ u .if3 .taken) (sym (c .before .sits .ensures) ∙ not-true _ (c .if4 .taken))))
 
 add-i : tie.Need-add-i Inv-loop μ-loop
 add-i c = search needs
@@ -68,13 +85,15 @@ loop-less c = search needs
 loop-again : tie.Need-loop-again Inv-loop μ-loop
 unfolding isOwed
 loop-again c =
-    let a = c .before .before .before .before .before .before .before .before .before .before .before .args in
-    let l = c .before .before .before .before .before .before .before .before .before .loop in
-    let e = c .before .before .before .before .before .before .before .entry-at in
+    let o = c .before .before in
+    let r = read (entered (o .before)) in
+    let a = start (turn r) .args in
+    let l = turn r .loop in
+    let e = r .entry-at in
     let seated = sits (a .slots) (a .seats) in
     let t = ticksFit (a .wait) (a .closed) seated in
-    let k : e .result .entered .0 ≤ e .result .changed .0 = c .before .before .before .before .before .if1 .left in
-    let m : e .result .changed .0 ≤ a .closed .0 = c .before .before .if2 .left in (
+    let k : e .result .entered .0 ≤ e .result .changed .0 = entered (o .before) .if1 .left in
+    let m : e .result .changed .0 ≤ a .closed .0 = o .if2 .left in (
       search needs,
       l .inv .1
           ∙ entry-turn t (a .n) (a .s .now) (l .i) (omega arith)
@@ -87,7 +106,7 @@ loop-again c =
 
 returns-4 : tie.Need-returns-4 Inv-loop μ-loop
 returns-4 c =
-    let a = c .before .before .before .args in
+    let a = start (c .before) .args in
     let l = c .before .loop in
     sym (l .inv .1 ∙ entry-end (ticksFit (a .wait) (a .closed) (sits (a .slots) (a .seats))) (a .n) (a .s .now) (l .i) (omega arith))
 

@@ -28,6 +28,10 @@ abbrev μ-loop : tie.MeasureT-loop
 abbrev start : tie.At-loop Inv-loop μ-loop → tie.Start Inv-loop μ-loop
 start c = c .before .before .before
 
+-- where the place of a marked row is read: the turn
+abbrev turn : tie.After-wide Inv-loop μ-loop → tie.In-loop Inv-loop μ-loop
+turn c = c .before .before .before .before
+
 -- the place of the entry of a row is one that the table has
 placed : (c : tie.In-loop Inv-loop μ-loop) → placeOf (entryOf (row 0 entryRow (c .before .loop .i) (start (c .before) .args .s .now))) < 272
 placed c =
@@ -52,7 +56,7 @@ slice-aggregate-raise c = search needs
 
 raise-requires : tie.Need-raise-requires Inv-loop μ-loop
 raise-requires c κs =
-    let u = c .before .before .before .before .before in
+    let u = turn (c .before) in
     let l = u .before in
     let e : c .before .wide .result ≡ placeOf (entryOf (row 0 entryRow (l .loop .i) (start l .args .s .now))) = c .before .wide .ensures .0 ∙ c .before .before .number .ensures .0 ∙ place-column (row 0 entryRow (l .loop .i) (start l .args .s .now)) in
     omega (arith, placed u)

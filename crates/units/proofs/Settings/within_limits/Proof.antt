@@ -7,6 +7,13 @@ use borrow.Author.Needs.{needs}
 use Rattle.units.proofs.Settings.within_limits.Statement.{statement}
 use Rattle.units.proofs.Settings.within_limits.Tie as tie
 
+-- at the last limit: where S passed; and there, where P passed
+abbrev slotted : tie.After-between3 → tie.Else2
+slotted c = c .before .before .before
+
+abbrev sized : tie.Else2 → tie.Else1
+sized c = c .before .before
+
 known-size-requires : tie.Need-known-size-requires
 known-size-requires c κs = search needs
 
@@ -30,9 +37,10 @@ between-requires-3 c κs = search needs
 
 returns-4 : tie.Need-returns-4
 returns-4 c =
-    let s = c .before .before .before .before .before .before .before .args .self in
-    let a : pageSize (s .size) ≡ true = sym (c .before .before .before .before .before .before .known-size .ensures) ∙ not-false _ (c .before .before .before .before .before .if1 .left) in
-    let b : between 1 16 (s .slots) ≡ true = sym (c .before .before .before .before .between .ensures) ∙ not-false _ (c .before .before .before .if2 .left) in
+    let p = sized (slotted c) in
+    let s = p .before .before .args .self in
+    let a : pageSize (s .size) ≡ true = sym (p .before .known-size .ensures) ∙ not-false _ (p .if1 .left) in
+    let b : between 1 16 (s .slots) ≡ true = sym (slotted c .before .between .ensures) ∙ not-false _ (slotted c .if2 .left) in
     let l : between 3 8 (s .lag) ≡ true = sym (c .before .before .between2 .ensures) ∙ not-false _ (c .before .if3 .left) in
     c .between3 .ensures ∙ sym (limits-capacity s a b l)
 
