@@ -1,8 +1,10 @@
 // The calls of the desk viewer, which is a C program (document 01, "What the desk does"). A read answers its number; two
-// companions answer the slice and the offset in it.
+// companions answer the slice and the offset in it. `ungletice_read_part` answers all three and judges once.
+use desk::Part;
 use units::Page;
 ghost use mathlib.Core.Path.{_≡_};
 ghost use Rattle.desk.specs.Outcome.{TakeDone, RefreshDone};
+ghost use Rattle.desk.specs.Part.{partOf};
 ghost use Rattle.desk.specs.Read.{deskRead};
 ghost use Rattle.desk.specs.Take.{takeReply, refreshReply};
 
@@ -61,4 +63,18 @@ pub extern "C" fn ungletice_read_offset(
     ensures { λ r. ⌜ r ≡ deskRead (now (held .entry)) (now (side .entry)) (now (base .entry)) page offset length .offset ⌝ }
 {
     desk::read_offset(side, base, held, Page(page), offset, length)
+}
+
+#[no_mangle]
+pub extern "C" fn ungletice_read_part(
+    side: &[u8],
+    base: &[u8],
+    held: &[u8],
+    page: u32,
+    offset: u32,
+    length: u32,
+) -> Part
+    ensures { λ r. ⌜ r ≡ partOf (deskRead (now (held .entry)) (now (side .entry)) (now (base .entry)) page offset length) ⌝ }
+{
+    desk::read_part(side, base, held, Page(page), offset, length)
 }

@@ -16,7 +16,7 @@ use Rattle.octets.specs.Part.{part, part-none}
 use Rattle.octets.specs.Rows.{row, row-in}
 use Rattle.lookup3.specs.Hash.{hashlittle}
 use Rattle.units.specs.Refusals as Refusals
-use Rattle.units.specs.Sizes.{headerLength, indexRow, limits, places, imageAt, sideLength}
+use Rattle.units.specs.Sizes.{headerLength, indexRow, limits, insidePage, places, imageAt, sideLength}
 use Rattle.units.specs.Tests.{Test, passes, verdict, tested-passes, passes-both, verdict-behind, verdict-none, stopped, refused-by}
 use Rattle.units.specs.declared.Place.{Place}
 use Rattle.units.specs.declared.Settings.{Settings}
@@ -201,22 +201,10 @@ module _ (h : Header) (base : List ℕ) (p offset n : ℕ) where
     unfolding spanTests verdict
     page-past k = rw (le-leb (h .settings .size * h .end) (length base) b, le-ltb p (h .end) k)
 
-    module _ (q : p < h .end) where
-      at-span : spans ≡ verdict ((Refusals.span, leb 1 n && leb (offset + n) (h .settings .size)) ∷ [])
-      unfolding spanTests verdict
-      at-span = rw (le-leb (h .settings .size * h .end) (length base) b, lt-ltb p (h .end) q)
-
-      pub span-empty : n < 1 → Refusals.span ≡ spans
-      unfolding verdict
-      span-empty k = sym (at-span ∙ rw (lt-leb 1 n k))
-
-      pub span-past : 1 ≤ n → h .settings .size < offset + n → Refusals.span ≡ spans
-      unfolding verdict
-      span-past k l = sym (at-span ∙ rw (le-leb 1 n k, lt-leb (offset + n) (h .settings .size) l))
-
-      pub span-inside : 1 ≤ n → offset + n ≤ h .settings .size → 0 ≡ spans
-      unfolding verdict
-      span-inside k l = sym (at-span ∙ rw (le-leb 1 n k, le-leb (offset + n) (h .settings .size) l))
+    -- the test of the span is left
+    pub at-span : p < h .end → spans ≡ verdict ((Refusals.span, insidePage (h .settings .size) offset n) ∷ [])
+    unfolding spanTests verdict
+    at-span q = rw (le-leb (h .settings .size * h .end) (length base) b, lt-ltb p (h .end) q)
 
 -- two numbers of 32 bits
 pub product : {a b : ℕ} → a < 4294967296 → b < 4294967296 → a * b ≤ 4294967295 * 4294967295

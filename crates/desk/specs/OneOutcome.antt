@@ -7,8 +7,10 @@ use mathlib.Core.List.{List}
 use mathlib.Core.Path.{_≡_, _∙_, sym}
 use denote.Ref.{RefT}
 use Rattle.desk.specs.Outcome.{TakeDone, RefreshDone, Handed}
+use Rattle.desk.specs.Part.{partOf}
 use Rattle.desk.specs.Read.{deskRead}
 use Rattle.desk.specs.Take.{takeReply, refreshReply}
+use Rattle.desk.specs.declared.Part.{Part}
 
 pub take-one : (side held : List ℕ) (n m : ℕ) (h k : List ℕ) → TakeDone (takeReply side held) n h → TakeDone (takeReply side held) m k
     → (n ≡ m) × (h ≡ k)
@@ -28,6 +30,9 @@ module _ (held : List ℕ) (side base : RefT (List ℕ)) (p offset n : ℕ) wher
 
 -- the companions, native and for C
 module _ (held side base : List ℕ) (p offset n : ℕ) where
+  pub read-part-one : (k m : Part) → k ≡ partOf (deskRead held side base p offset n) → m ≡ partOf (deskRead held side base p offset n) → k ≡ m
+  read-part-one k m a b = a ∙ sym b
+
   pub read-number-one : (k m : ℕ) → k ≡ deskRead held side base p offset n .number → m ≡ deskRead held side base p offset n .number → k ≡ m
   read-number-one k m a b = a ∙ sym b
 

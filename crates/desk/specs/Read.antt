@@ -1,7 +1,6 @@
 -- The desk's read: the tests 3 to 6, where the bytes lie, and the test of 14. The answer has four parts, of which each of the
 -- calls shows some.
 use Prim.Native.Nat.{ℕ, _+_, _*_}
-use mathlib.Core.Bool.{_&&_}
 use mathlib.Core.List.{List, [], _∷_, _++_}
 use mathlib.Core.Option.{Option, some, none}
 use lib.Dec.{eqb, ltb, leb}
@@ -10,7 +9,7 @@ use Rattle.lists.specs.Bools.{if-then}
 use Rattle.lists.specs.Scans.{first}
 use Rattle.octets.specs.Part.{part}
 use Rattle.units.specs.Refusals as Refusals
-use Rattle.units.specs.Sizes.{imageAt}
+use Rattle.units.specs.Sizes.{insidePage, imageAt}
 use Rattle.units.specs.Tests.{Test, passes, tested}
 use Rattle.sidefile.specs.Encode.{imageSum, headerOf, indexOf}
 use Rattle.sidefile.specs.Judge.{frontTests, heldTests}
@@ -34,7 +33,7 @@ unfoldable pub spanTests : Header → List ℕ → ℕ → ℕ → ℕ → List 
 spanTests held base p offset n =
     (Refusals.short, leb (held .settings .size * held .end) (length base))
     ∷ (Refusals.page, ltb p (held .end))
-    ∷ (Refusals.span, leb 1 n && leb (offset + n) (held .settings .size))
+    ∷ (Refusals.span, insidePage (held .settings .size) offset n)
     ∷ []
 
 unfoldable pub readTests : List ℕ → List ℕ → List ℕ → ℕ → ℕ → ℕ → List Test

@@ -1,5 +1,5 @@
 // The desk (document 01, "What the desk does"): take, refresh and read. Its state is the held buffer, which it lends.
-// The six calls below take anything: every slice and number is judged before it is used, the held buffer too.
+// The calls below take anything: every slice and number is judged before it is used, the held buffer too.
 mod follow;
 mod locate;
 mod marks;
@@ -12,8 +12,18 @@ use units::Page;
 use units::refusal;
 ghost use mathlib.Core.Path.{_≡_};
 ghost use Rattle.desk.specs.Outcome.{TakeDone, RefreshDone, Handed};
+ghost use Rattle.desk.specs.Part.{partOf};
 ghost use Rattle.desk.specs.Read.{deskRead};
 ghost use Rattle.desk.specs.Take.{takeReply, refreshReply};
+
+// What a read answers to a program that takes its bytes itself: the number of refusal, the slice (0 the base, 1 the side
+// file) and where in it they begin. Of a refusal the last two are 0.
+#[repr(C)]
+pub struct Part {
+    pub number: u32,
+    pub source: u32,
+    pub offset: usize,
+}
 
 // The side file's header and index, copied into the held buffer. 11, 12, 2 or 0.
 pub fn take(side: &[u8], held: &mut [u8]) -> u32
@@ -68,6 +78,25 @@ pub fn read<'a>(
         return &side[start..end];
     }
     &base[start..end]
+}
+
+// All that a read answers but the bytes, judged once. The three companions below answer its fields one by one.
+pub fn read_part(
+    side: &[u8],
+    base: &[u8],
+    held: &[u8],
+    page: Page,
+    offset: u32,
+    length: u32,
+) -> Part
+    ensures { λ r. ⌜ r ≡ partOf (deskRead (now (held .entry)) (now (side .entry)) (now (base .entry)) (page .0) offset length) ⌝ }
+{
+    let found = locate::locate(side, base, held, page, offset, length);
+    Part {
+        number: found.number,
+        source: found.source,
+        offset: found.start,
+    }
 }
 
 // The refusal of a read: 3, 11, 12, 13, 2, 4, 6, 14 or 0.

@@ -3,22 +3,17 @@ use crate::follow;
 use sidefile::Header;
 use sidefile::IndexEntry;
 use sidefile::headers;
-use sidefile::layout;
 use sidefile::rows;
 use sidefile::wide;
 use units::Page;
-use units::Place;
 use units::Settings;
-use units::Tick;
 use units::refusal;
 ghost use mathlib.Core.Path.{_≡_};
 ghost use mathlib.Core.Bool.{true};
-ghost use Prim.Native.Nat.{_+_, _*_, _≤_, _<_};
+ghost use Prim.Native.Nat.{_+_, _≤_, _<_};
 ghost use lib.ListN as ListN;
-ghost use Rattle.octets.specs.Rows.{row};
-ghost use Rattle.units.specs.Sizes.{headerLength, indexRow, limits, imageAt};
+ghost use Rattle.units.specs.Sizes.{limits, imageAt};
 ghost use Rattle.units.specs.Tests.{verdict};
-ghost use Rattle.sidefile.specs.Encode.{indexEntryOf};
 ghost use Rattle.desk.specs.Read.{spanTests, readTests, deskRead};
 ghost use Rattle.desk.specs.Span.{noSpan, baseSpan, imageSpan, Locates};
 
@@ -77,21 +72,6 @@ fn readable(side: &[u8], base: &[u8], held: &[u8], page: Page, offset: u32, leng
     spanned(base, headers::header_of(held), page, offset, length)
 }
 
-// Entry i of the held index.
-fn entry_at(held: &[u8], i: usize) -> IndexEntry
-    requires { ⌜ headerLength + i * indexRow + indexRow ≤ ListN.length (now held) ⌝ }
-    ensures { λ r. ⌜ r ≡ indexEntryOf (row headerLength indexRow i (now (held .entry))) ⌝ }
-{
-    let at = Settings::HEADER_LENGTH;
-    let w = Settings::INDEX_ROW;
-    IndexEntry {
-        page: Page(rows::number(held, at, w, i, layout::PAGE)),
-        place: Place(rows::number(held, at, w, i, layout::PLACE)),
-        changed: Tick(rows::number(held, at, w, i, layout::CHANGED)),
-        sum: rows::number(held, at, w, i, layout::SUM),
-    }
-}
-
 fn in_base(settings: Settings, page: Page, offset: u32, length: u32) -> Found
     ensures { λ r. ⌜ r ≡ baseSpan settings (page .0) offset length ⌝ }
 {
@@ -129,10 +109,18 @@ pub fn locate(side: &[u8], base: &[u8], held: &[u8], page: Page, offset: u32, le
         return refuse(number);
     }
     let header = headers::header_of(held);
+    let at = Settings::HEADER_LENGTH;
+    let w = Settings::INDEX_ROW;
     let n = wide(header.entries);
-    let i = rows::find(held, Settings::HEADER_LENGTH, Settings::INDEX_ROW, n, page);
+    let i = rows::find(held, at, w, n, page);
     if i < n {
-        return in_image(side, header.settings, entry_at(held, i), offset, length);
+        return in_image(
+            side,
+            header.settings,
+            rows::entry(held, at, w, i),
+            offset,
+            length,
+        );
     }
     in_base(header.settings, page, offset, length)
 }

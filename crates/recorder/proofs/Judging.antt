@@ -24,9 +24,10 @@ use Rattle.ledger.specs.View.{entriesIn}
 use Rattle.ledger.specs.declared.Entry.{Entry}
 use Rattle.recorder.specs.Outcome.{lent}
 use Rattle.recorder.specs.Rules.{rules, longEnough, kindRules, standing}
+use Rattle.recorder.specs.Seats.{seatFits}
 use Rattle.recorder.specs.World.{World, entriesOf, slotFor}
 use Rattle.recorder.specs.declared.State.{State}
-use Rattle.recorder.proofs.Passes.{fitting}
+use Rattle.recorder.proofs.Passes.{table-fits}
 
 -- A page is in a slot where the judge of the ledger finds it among the seats.
 
@@ -120,14 +121,16 @@ module _ (st : State) (ledger kinds : List ℕ) where
   abbrev kept : Bool
   kept = kindRules (lent st ledger [] [] [] kinds)
 
-  pub slots-raw : allOf (fitting (st .slots) kinds) (below (st .settings .slots)) ≡ false → false ≡ kept
-  unfolding kindRules
-  slots-raw e = rw e
+  abbrev slots-fit : Bool
+  slots-fit = allOf (seatFits kinds (st .slots .pages)) (below (st .settings .slots))
 
-  pub entries-decide : allOf (fitting (st .slots) kinds) (below (st .settings .slots)) ≡ true
-      → allOf (λ (e : Entry). eqb (getD kinds (pageOf e) 0) 0) (entriesIn (st .entries) ledger) ≡ kept
+  pub slots-raw : slots-fit ≡ false → false ≡ kept
+  unfolding kindRules
+  slots-raw e = rw (sym (table-fits (st .slots) (st .settings .slots) kinds) ∙ e)
+
+  pub entries-decide : slots-fit ≡ true → allOf (λ (e : Entry). eqb (getD kinds (pageOf e) 0) 0) (entriesIn (st .entries) ledger) ≡ kept
   unfolding kindRules entriesOf
-  entries-decide e = rw e
+  entries-decide e = rw (sym (table-fits (st .slots) (st .settings .slots) kinds) ∙ e)
 
 -- What a rule does not look at does not matter.
 

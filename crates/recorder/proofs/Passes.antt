@@ -1,6 +1,6 @@
 -- Passes over slots and over the kind table: what one turn does. Assumes nothing.
 use Prim.Native.Nat.{ℕ, _+_, _<_, _≤_}
-use mathlib.Core.Path.{_≡_}
+use mathlib.Core.Path.{_≡_, refl}
 use mathlib.Core.Bool.{Bool, true, false, _||_}
 use mathlib.Core.List.{List, _∷_}
 use native.Mathlib.Omega.{arith}
@@ -9,13 +9,15 @@ use lib.Dec.{eqb, ltb}
 use lib.ListN.{length, take, drop, getD, length-take}
 use lib.Seq.{drop-cons, getD-take, drop-length}
 use borrow.Author.Tests.{eq-eqb, ne-eqb, ltb-true}
-use Rattle.lists.specs.Below.{all-from}
+use Rattle.lists.specs.Below.{below, all-from}
 use Rattle.lists.specs.Bools.{or-drop}
 use Rattle.lists.specs.Scans.{allOf}
+use Rattle.units.specs.declared.Page.{Page}
 use Rattle.slots.specs.Rules.{slotRules}
 use Rattle.slots.specs.Sits.{slot-facts}
 use Rattle.slots.specs.Table.{toPage, noPage, pageAt, vacant}
 use Rattle.slots.specs.declared.Slots.{Slots}
+use Rattle.recorder.specs.Seats.{seats, seatBelow, seatFits}
 
 -- a test of the first n bytes, from i on
 module _ (t : ℕ → Bool) (n : ℕ) (xs : List ℕ) (i : ℕ) where
@@ -39,26 +41,33 @@ module _ (t : ℕ → Bool) (n : ℕ) (xs : List ℕ) (i : ℕ) where
     unfolding allOf
     bytes-turn k = rw (next, k)
 
--- slot i is vacant or its page is metadata
-module _ (t : Slots) (kinds : List ℕ) (i : ℕ) where
-  abbrev pub fitting : Bool
-  fitting = vacant t i || eqb (getD kinds (pageAt t i) 0) 0
-
-  pub fits-vacant : getD (t .pages) i (toPage 0) .0 ≡ noPage → fitting ≡ true
+-- slot i, by the pages in the slots
+module _ (kinds : List ℕ) (pages : List Page) (i : ℕ) where
+  pub fits-vacant : getD pages i (toPage 0) .0 ≡ noPage → seatFits kinds pages i ≡ true
   unfolding vacant pageAt
-  fits-vacant e = rw (eq-eqb (pageAt t i) noPage e)
+  fits-vacant e = rw (eq-eqb (pageAt (seats pages) i) noPage e)
 
-  module _ (ne : getD (t .pages) i (toPage 0) .0 ≡ noPage → ⊥) where
-    occupied : vacant t i ≡ false
+  module _ (ne : getD pages i (toPage 0) .0 ≡ noPage → ⊥) where
+    occupied : vacant (seats pages) i ≡ false
     unfolding vacant pageAt
-    occupied = ne-eqb (pageAt t i) noPage ne
+    occupied = ne-eqb (pageAt (seats pages) i) noPage ne
 
-    pub fits-kind : (p : ℕ) → p ≡ getD (t .pages) i (toPage 0) .0 → fitting ≡ eqb (getD kinds p 0) 0
+    pub fits-kind : (p : ℕ) → p ≡ getD pages i (toPage 0) .0 → seatFits kinds pages i ≡ eqb (getD kinds p 0) 0
     unfolding pageAt
     fits-kind p e = rw (occupied, e)
 
-    pub page-low : (S end : ℕ) → slotRules S end t ≡ true → i < S → getD (t .pages) i (toPage 0) .0 < end
+    pub page-low : (S end : ℕ) → allOf (seatBelow end pages) (below S) ≡ true → i < S → getD pages i (toPage 0) .0 < end
     unfolding pageAt
     page-low S end r h =
-        ltb-true (pageAt t i) end
-        (or-drop (vacant t i) (ltb (pageAt t i) end) (all-from (λ i. vacant t i || ltb (pageAt t i) end) 0 S i (omega arith) (omega arith) (slot-facts S end t r .low)) occupied)
+        ltb-true (pageAt (seats pages) i) end
+        (or-drop (vacant (seats pages) i) (ltb (pageAt (seats pages) i) end) (all-from (seatBelow end pages) 0 S i (omega arith) (omega arith) r) occupied)
+
+-- of a whole table
+module _ (t : Slots) where
+  pub table-below : (S end : ℕ) → slotRules S end t ≡ true → allOf (seatBelow end (t .pages)) (below S) ≡ true
+  unfolding vacant pageAt
+  table-below S end r = slot-facts S end t r .low
+
+  pub table-fits : (S : ℕ) (kinds : List ℕ) → allOf (seatFits kinds (t .pages)) (below S) ≡ allOf (λ i. vacant t i || eqb (getD kinds (pageAt t i) 0) 0) (below S)
+  unfolding vacant pageAt
+  table-fits S kinds = refl

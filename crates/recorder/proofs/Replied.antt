@@ -1,72 +1,95 @@
--- The replies of open, read, write and grow, by where the code returns. Assumes nothing.
-use Prim.Native.Nat.{ℕ, _+_, _*_, _≤_}
+-- The replies of open, read, write and grow, by where the code returns: what the code's parts say of state, slices and slot goes
+-- in, and out comes the reply. Assumes nothing.
+use Prim.Native.Nat.{ℕ, _+_, _*_}
 use mathlib.Core.Path.{_≡_, refl, _∙_, sym, ap}
 use mathlib.Core.Bool.{true, false, false≢true}
 use mathlib.Core.List.{List, [], _++_}
 use mathlib.Core.Option.{Option, some, none}
 use native.Mathlib.Omega.{arith}
-use lib.ListN.{length, set, replicate}
-use lib.Seq.{take-all}
+use lib.ListN.{length, getD, set, replicate}
 use borrow.Author.Tests.{eq-eqb, ne-eqb}
-use Rattle.octets.specs.Part.{part, lay, lay-whole, length-part, part-zero}
-use Rattle.octets.specs.Rows.{row}
+use Rattle.octets.specs.Part.{lay}
+use Rattle.octets.specs.Rows.{page}
 use Rattle.units.specs.Ages.{tick}
 use Rattle.units.specs.Refusals as Refusals
 use Rattle.units.specs.Sizes.{ledgerLength}
 use Rattle.units.specs.Tests.{Test, verdict, tested-passes, refused-by}
 use Rattle.units.specs.declared.Settings.{Settings}
 use Rattle.sidefile.specs.Encode.{headerFor, indexBytes}
-use Rattle.slots.specs.Table.{marked, Seat}
+use Rattle.slots.specs.Asked.{seat-table}
+use Rattle.slots.specs.Table.{Seat}
 use Rattle.slots.specs.declared.Slots.{Slots}
-use Rattle.recorder.specs.Calls.{openState, openTests, opened, openReply, spanTests, Found, hit, miss, nowhere, foundIn, found, hitWorld, missWorld, metaBypass, rawBypass, readFound, readReply, written, writeFound, writeReply, growTests, grown, zeroPage, growSeated, growReply, seatFor}
+use Rattle.recorder.specs.Calls.{openState, openTests, opened, openReply, spanTests, unclean, Found, hit, miss, nowhere, foundIn, found, hitWorld, missWorld, metaBypass, rawBypass, spanIn, laidIn, readFound, readReply, written, writeFound, writeReply, growTests, grown, zeroPage, growSeated, growReply, seatFor}
 use Rattle.recorder.specs.Outcome.{lent}
 use Rattle.recorder.specs.Rules.{standing}
-use Rattle.recorder.specs.Using.{useOf, addUse, broughtTo}
-use Rattle.recorder.specs.World.{World, refuse, accept, setState, setEnd, setSlots, setMeta, setLedger, setBase, setSide, setBuffer, setKinds, addEviction, zeroState, pageSize, kindOf, metadata, slotFor, baseBytes}
-use Rattle.recorder.specs.declared.Counts.{Counts}
+use Rattle.recorder.specs.Using.{useOf, Chosen, usedState, changedState, seatedState, broughtTo}
+use Rattle.recorder.specs.World.{World, refuse, accept, setState, setEnd, setSlots, setMeta, setLedger, setBase, setSide, setBuffer, setKinds, addMiss, zeroState, pageSize, slotCount, kindOf, metadata, slotFor, baseBytes}
 use Rattle.recorder.specs.declared.State.{State}
 use Rattle.recorder.specs.declared.buffer.Use.{Use}
-use Rattle.recorder.proofs.Accepted.{Access, access-base, Growth, Opening}
-use Rattle.recorder.proofs.Bringing.{alone, found-absent, useIn, use-alone, use-nowhere, use-unseated}
+use Rattle.recorder.proofs.Accepted.{Access, Growth, Opening}
+use Rattle.recorder.proofs.Bringing.{useIn, chosen-seat, use-nowhere, use-unseated}
 
--- n bytes laid over a slice of that length
-filled : (into xs : List ℕ) (at : ℕ) → at + length into ≤ length xs → lay into 0 (part xs at (length into)) ≡ part xs at (length into)
-filled into xs at h = lay-whole into (part xs at (length into)) (length-part xs at (length into) h)
+-- a metadata page used, by the code's answer u of it, and by where it was found
+module _ (w : World) (p : ℕ) where
+  abbrev usedWorld : Use → World
+  usedWorld u =
+      setState (usedState u p (w .state))
+      (setBuffer (broughtTo (u .hit) (w .buffer) (u .slot * pageSize w) (page (pageSize w) p (w .base))) w)
 
-whole-part : (bs : List ℕ) → part bs 0 (length bs) ≡ bs
-whole-part bs = part-zero bs (length bs) ∙ take-all (length bs) bs (omega arith)
+  abbrev foundWorld : Found → World
+  foundWorld (hit i) = hitWorld w p
+  foundWorld (miss x) = missWorld w p x
+  foundWorld nowhere = w
 
--- the state and the buffer after page p was used, by the answer u of it
-abbrev usedState : World → Use → State
-usedState w u = setSlots (u .table) (setMeta (addUse (u .hit) (u .evicts) (w .state .meta)) (w .state))
+  missed : (x : Seat) → seatFor w p ≡ some x → usedWorld (useOf (miss x)) ≡ missWorld w p x
+  unfolding missWorld broughtTo baseBytes
+  missed x e =
+      ap (λ (t : Slots). setState (setSlots t (setMeta (addMiss (x .evicts) (w .state .meta)) (w .state))) (setBuffer (lay (w .buffer) (x .slot * pageSize w) (baseBytes w p)) w))
+      (sym (seat-table (slotCount w) (unclean w) p (w .state .slots) x e))
 
-abbrev usedBuffer : World → ℕ → Use → List ℕ
-usedBuffer w p u = broughtTo (u .hit) (w .buffer) (u .slot * pageSize w) (part (w .base) (p * pageSize w) (pageSize w))
+  found-used : useIn w p .found ≡ true → usedWorld (useIn w p) ≡ foundWorld (found w p)
+  unfolding found foundIn hitWorld broughtTo
+  found-used y = go (slotFor w p) (seatFor w p) refl y
+    where
+      go : (o : Option ℕ) (q : Option Seat) → seatFor w p ≡ q → useOf (foundIn o q) .found ≡ true → usedWorld (useOf (foundIn o q)) ≡ foundWorld (foundIn o q)
+      go (some i) q e y = refl
+      go none (some x) e y = missed x e
+      go none none e y = absurd (false≢true y)
 
-base-bytes : (w : World) (p : ℕ) → part (w .base) (p * pageSize w) (pageSize w) ≡ baseBytes w p
-unfolding baseBytes row
-base-bytes w p = ap (λ (a : ℕ). part (w .base) a (pageSize w)) (omega arith)
+  read-by : (offset n : ℕ) (f : Found) → useOf f .found ≡ true → accept (foundWorld f) (spanIn (pageSize w) (foundWorld f .buffer) (useOf f .slot) offset n) ≡ readFound w p offset n f
+  unfolding readFound hitWorld
+  read-by offset n (hit i) y = refl
+  read-by offset n (miss x) y = refl
+  read-by offset n nowhere y = absurd (false≢true y)
 
--- a metadata page used, wherever it is found
-module _ (w : World) (p offset : ℕ) where
-  abbrev useAt : Found → Use
-  useAt f = useOf (w .state .slots) p f
+  write-by : (offset : ℕ) (bs : List ℕ) (f : Found) → useOf f .found ≡ true → accept (written (foundWorld f) (useOf f .slot) offset bs) bs ≡ writeFound w p offset bs f
+  unfolding writeFound
+  write-by offset bs (hit i) y = refl
+  write-by offset bs (miss x) y = refl
+  write-by offset bs nowhere y = absurd (false≢true y)
 
-  read-used : (n : ℕ) (f : Found) → useAt f .found ≡ true
-      → accept (setState (usedState w (useAt f)) (setBuffer (usedBuffer w p (useAt f)) w)) (part (usedBuffer w p (useAt f)) (useAt f .slot * pageSize w + offset) n) ≡ readFound w p offset n f
-  unfolding readFound hitWorld missWorld broughtTo
-  read-used n (hit i) h = refl
-  read-used n (miss x) h =
-      ap (λ (b : List ℕ). accept (setState (usedState w (useAt (miss x))) (setBuffer (lay (w .buffer) (x .slot * pageSize w) b) w)) (part (lay (w .buffer) (x .slot * pageSize w) b) (x .slot * pageSize w + offset) n)) (base-bytes w p)
-  read-used n nowhere h = absurd (false≢true h)
+  -- the code's answer
+  module _ (u : Use) (c : Chosen w p u) where
+    none-found : u .found ≡ false → found w p ≡ nowhere
+    none-found y = use-nowhere (found w p) (sym (ap (λ (u : Use). u .found) (c .is)) ∙ y)
 
-  write-used : (bs : List ℕ) (f : Found) → useAt f .found ≡ true
-      → accept (setState (setSlots (marked (useAt f .slot) (useAt f .table)) (usedState w (useAt f))) (setBuffer (lay (usedBuffer w p (useAt f)) (useAt f .slot * pageSize w + offset) bs) w)) bs ≡ writeFound w p offset bs f
-  unfolding writeFound written hitWorld missWorld broughtTo
-  write-used bs (hit i) h = refl
-  write-used bs (miss x) h =
-      ap (λ (b : List ℕ). accept (setState (setSlots (marked (x .slot) (x .table)) (usedState w (useAt (miss x)))) (setBuffer (lay (lay (w .buffer) (x .slot * pageSize w) b) (x .slot * pageSize w + offset) bs) w)) bs) (base-bytes w p)
-  write-used bs nowhere h = absurd (false≢true h)
+    module _ (y : u .found ≡ true) where
+      is-found : useIn w p .found ≡ true
+      is-found = sym (ap (λ (u : Use). u .found) (c .is)) ∙ y
+
+      used : usedWorld u ≡ foundWorld (found w p)
+      used = ap usedWorld (c .is) ∙ found-used is-found
+
+      used-slot : u .slot ≡ useIn w p .slot
+      used-slot = ap (λ (u : Use). u .slot) (c .is)
+
+-- page p as the code's index k has it
+module _ (w : World) (p k : ℕ) (at : k ≡ p) where
+  is-raw : (getD (w .kinds) k 0 ≡ 0 → ⊥) → metadata w p ≡ false
+  is-raw m = ne-eqb (kindOf w p) 0 (λ z. m (ap (λ (k : ℕ). getD (w .kinds) k 0) at ∙ z))
+
+  is-metadata : getD (w .kinds) k 0 ≡ 0 → metadata w p ≡ true
+  is-metadata m = eq-eqb (kindOf w p) 0 (ap (λ (k : ℕ). getD (w .kinds) k 0) (sym at) ∙ m)
 
 -- read
 module _ (w : World) (p offset : ℕ) (into : List ℕ) where
@@ -77,49 +100,37 @@ module _ (w : World) (p offset : ℕ) (into : List ℕ) where
   unfolding readReply
   read-refused n e ne = sym (refused-by (refuse w into) _ tests n e ne)
 
-  module _ (a : Access w p offset (length into)) where
-    raw-read : metadata w p ≡ false → readReply p offset into w ≡ accept (rawBypass w) (part (w .base) (p * pageSize w + offset) (length into))
+  module _ (a : Access w p offset (length into)) (k : ℕ) (at : k ≡ p) where
+    raw-read : metadata w p ≡ false → readReply p offset into w ≡ accept (rawBypass w) (spanIn (pageSize w) (w .base) p offset (length into))
     unfolding readReply
-    raw-read k = tested-passes (refuse w into) _ tests (a .passed) ∙ rw k
+    raw-read m = tested-passes (refuse w into) _ tests (a .passed) ∙ rw m
 
-    meta-read : metadata w p ≡ true → (f : Found) → found w p ≡ f → readReply p offset into w ≡ readFound w p offset (length into) f
+    meta-read : metadata w p ≡ true → readReply p offset into w ≡ readFound w p offset (length into) (found w p)
     unfolding readReply
-    meta-read k f e = tested-passes (refuse w into) _ tests (a .passed) ∙ rw (k, e)
+    meta-read m = tested-passes (refuse w into) _ tests (a .passed) ∙ rw m
 
-    in-base : (x : List ℕ) → x ≡ lay into 0 (part (w .base) (p * pageSize w + offset) (length into)) → x ≡ part (w .base) (p * pageSize w + offset) (length into)
-    in-base x e = e ∙ filled into (w .base) (p * pageSize w + offset) (access-base w p offset (length into) a)
-
-    pub read-raw : (kindOf w p ≡ 0 → ⊥) → (s : State) → s ≡ rawBypass (lent (w .state) [] [] [] [] []) .state
-        → (x : List ℕ) → x ≡ lay into 0 (part (w .base) (p * pageSize w + offset) (length into))
+    pub read-raw : (getD (w .kinds) k 0 ≡ 0 → ⊥)
+        → (s : State) → s ≡ rawBypass (lent (w .state) [] [] [] [] []) .state
+        → (x : List ℕ) → x ≡ spanIn (pageSize w) (w .base) k offset (length into)
         → accept (setState s w) x ≡ readReply p offset into w
     unfolding rawBypass
-    read-raw k s e x f =
-        ap (λ (s : State). accept (setState s w) x) e
-        ∙ ap (λ (x : List ℕ). accept (rawBypass w) x) (in-base x f)
-        ∙ sym (raw-read (ne-eqb _ _ k))
+    read-raw m s e x f = cc (raw-read (is-raw w p k at m))
 
-    module _ (k : kindOf w p ≡ 0) (u : Use) (h : u ≡ useIn (alone w) p) where
-      pub read-found : u .found ≡ true → (b : List ℕ) → b ≡ usedBuffer w p u → (fits : u .slot * pageSize w + offset + length into ≤ length b)
-          → (x : List ℕ) → x ≡ lay into 0 (part b (u .slot * pageSize w + offset) (length into))
-          → (c : Counts) → c ≡ addUse (u .hit) (u .evicts) (w .state .meta)
-          → accept (setState (setSlots (u .table) (setMeta c (w .state))) (setBuffer b w)) x ≡ readReply p offset into w
-      read-found y b f fits x e c m =
-          let g = h ∙ use-alone w p in
-          ap (λ (x : List ℕ). accept (setState (setSlots (u .table) (setMeta c (w .state))) (setBuffer b w)) x) (e ∙ filled into b (u .slot * pageSize w + offset) fits)
-          ∙ ap (λ (c : Counts). accept (setState (setSlots (u .table) (setMeta c (w .state))) (setBuffer b w)) (part b (u .slot * pageSize w + offset) (length into))) m
-          ∙ ap (λ (b : List ℕ). accept (setState (usedState w u) (setBuffer b w)) (part b (u .slot * pageSize w + offset) (length into))) f
-          ∙ ap (λ (u : Use). accept (setState (usedState w u) (setBuffer (usedBuffer w p u) w)) (part (usedBuffer w p u) (u .slot * pageSize w + offset) (length into))) g
-          ∙ read-used w p offset (length into) (found w p) (sym (ap (λ (u : Use). u .found) g) ∙ y)
-          ∙ sym (meta-read (eq-eqb _ _ k) (found w p) refl)
-
-      pub read-nowhere : u .found ≡ false → (s : State) → s ≡ metaBypass (lent (w .state) [] [] [] [] []) .state
-          → (x : List ℕ) → x ≡ lay into 0 (part (w .base) (p * pageSize w + offset) (length into))
+    module _ (m : getD (w .kinds) k 0 ≡ 0) (u : Use) (c : Chosen w p u) where
+      pub read-nowhere : u .found ≡ false
+          → (s : State) → s ≡ metaBypass (lent (w .state) [] [] [] [] []) .state
+          → (x : List ℕ) → x ≡ spanIn (pageSize w) (w .base) k offset (length into)
           → accept (setState s w) x ≡ readReply p offset into w
       unfolding metaBypass readFound
-      read-nowhere y s e x f =
-          ap (λ (s : State). accept (setState s w) x) e
-          ∙ ap (λ (x : List ℕ). accept (metaBypass w) x) (in-base x f)
-          ∙ sym (meta-read (eq-eqb _ _ k) nowhere (use-nowhere (w .state .slots) p (found w p) (sym (ap (λ (u : Use). u .found) (h ∙ use-alone w p)) ∙ y)))
+      read-nowhere y s e x f = cc (ap (readFound w p offset (length into)) (none-found w p u c y), meta-read (is-metadata w p k at m))
+
+      pub read-found : u .found ≡ true
+          → (s : State) → s ≡ usedState u p (w .state)
+          → (b : List ℕ) → b ≡ broughtTo (u .hit) (w .buffer) (u .slot * pageSize w) (page (pageSize w) k (w .base))
+          → (x : List ℕ) → x ≡ spanIn (pageSize w) b (u .slot) offset (length into)
+          → accept (setState s (setBuffer b w)) x ≡ readReply p offset into w
+      read-found y s e b f x g =
+          cc (used w p u c y, used-slot w p u c y, read-by w p offset (length into) (found w p) (is-found w p u c y), meta-read (is-metadata w p k at m))
 
 -- write
 module _ (w : World) (p offset : ℕ) (bs : List ℕ) where
@@ -127,43 +138,40 @@ module _ (w : World) (p offset : ℕ) (bs : List ℕ) where
   unfolding writeReply
   write-refused n e ne = sym (refused-by (refuse w bs) _ (tests w p offset bs) n e ne)
 
-  module _ (a : Access w p offset (length bs)) where
-    raw-write : metadata w p ≡ false → writeReply p offset bs w ≡ accept (setBase (lay (w .base) (p * pageSize w + offset) bs) (rawBypass w)) bs
+  module _ (a : Access w p offset (length bs)) (k : ℕ) (at : k ≡ p) where
+    raw-write : metadata w p ≡ false → writeReply p offset bs w ≡ accept (setBase (laidIn (pageSize w) (w .base) p offset bs) (rawBypass w)) bs
     unfolding writeReply
-    raw-write k = tested-passes (refuse w bs) _ (tests w p offset bs) (a .passed) ∙ rw k
+    raw-write m = tested-passes (refuse w bs) _ (tests w p offset bs) (a .passed) ∙ rw m
 
-    meta-write : metadata w p ≡ true → (f : Found) → found w p ≡ f → writeReply p offset bs w ≡ writeFound w p offset bs f
+    meta-write : metadata w p ≡ true → writeReply p offset bs w ≡ writeFound w p offset bs (found w p)
     unfolding writeReply
-    meta-write k f e = tested-passes (refuse w bs) _ (tests w p offset bs) (a .passed) ∙ rw (k, e)
+    meta-write m = tested-passes (refuse w bs) _ (tests w p offset bs) (a .passed) ∙ rw m
 
-    pub write-raw : (kindOf w p ≡ 0 → ⊥) → (s : State) → s ≡ rawBypass (lent (w .state) [] [] [] [] []) .state
-        → (x : List ℕ) → x ≡ lay (w .base) (p * pageSize w + offset) (part bs 0 (length bs))
+    pub write-raw : (getD (w .kinds) k 0 ≡ 0 → ⊥)
+        → (s : State) → s ≡ rawBypass (lent (w .state) [] [] [] [] []) .state
+        → (x : List ℕ) → x ≡ laidIn (pageSize w) (w .base) k offset bs
         → accept (setState s (setBase x w)) bs ≡ writeReply p offset bs w
     unfolding rawBypass
-    write-raw k s e x f =
-        ap (λ (s : State). accept (setState s (setBase x w)) bs) e
-        ∙ ap (λ (x : List ℕ). accept (setBase x (rawBypass w)) bs) (f ∙ ap (lay (w .base) (p * pageSize w + offset)) (whole-part bs))
-        ∙ sym (raw-write (ne-eqb _ _ k))
+    write-raw m s e x f = cc (raw-write (is-raw w p k at m))
 
-    module _ (k : kindOf w p ≡ 0) (u : Use) (h : u ≡ useIn (alone w) p) where
-      pub write-found : u .found ≡ true → (b : List ℕ) → b ≡ usedBuffer w p u
-          → (x : List ℕ) → x ≡ lay b (u .slot * pageSize w + offset) (part bs 0 (length bs))
-          → (t : Slots) → t ≡ marked (u .slot) (u .table)
-          → (c : Counts) → c ≡ addUse (u .hit) (u .evicts) (w .state .meta)
-          → accept (setState (setSlots t (setMeta c (w .state))) (setBuffer x w)) bs ≡ writeReply p offset bs w
-      write-found y b f x e t l c m =
-          let g = h ∙ use-alone w p in
-          ap (λ (t : Slots). accept (setState (setSlots t (setMeta c (w .state))) (setBuffer x w)) bs) l
-          ∙ ap (λ (c : Counts). accept (setState (setSlots (marked (u .slot) (u .table)) (setMeta c (w .state))) (setBuffer x w)) bs) m
-          ∙ ap (λ (x : List ℕ). accept (setState (setSlots (marked (u .slot) (u .table)) (usedState w u)) (setBuffer x w)) bs) (e ∙ ap (lay b (u .slot * pageSize w + offset)) (whole-part bs))
-          ∙ ap (λ (b : List ℕ). accept (setState (setSlots (marked (u .slot) (u .table)) (usedState w u)) (setBuffer (lay b (u .slot * pageSize w + offset) bs) w)) bs) f
-          ∙ ap (λ (u : Use). accept (setState (setSlots (marked (u .slot) (u .table)) (usedState w u)) (setBuffer (lay (usedBuffer w p u) (u .slot * pageSize w + offset) bs) w)) bs) g
-          ∙ write-used w p offset bs (found w p) (sym (ap (λ (u : Use). u .found) g) ∙ y)
-          ∙ sym (meta-write (eq-eqb _ _ k) (found w p) refl)
-
+    module _ (m : getD (w .kinds) k 0 ≡ 0) (u : Use) (c : Chosen w p u) where
       pub write-nowhere : u .found ≡ false → refuse w bs Refusals.noSlot ≡ writeReply p offset bs w
       unfolding writeFound
-      write-nowhere y = sym (meta-write (eq-eqb _ _ k) nowhere (use-nowhere (w .state .slots) p (found w p) (sym (ap (λ (u : Use). u .found) (h ∙ use-alone w p)) ∙ y)))
+      write-nowhere y = cc (ap (writeFound w p offset bs) (none-found w p u c y), meta-write (is-metadata w p k at m))
+
+      pub write-found : u .found ≡ true
+          → (s : State) → s ≡ changedState (u .slot) (usedState u p (w .state))
+          → (b : List ℕ) → b ≡ broughtTo (u .hit) (w .buffer) (u .slot * pageSize w) (page (pageSize w) k (w .base))
+          → (x : List ℕ) → x ≡ laidIn (pageSize w) b (u .slot) offset bs
+          → accept (setState s (setBuffer x w)) bs ≡ writeReply p offset bs w
+      unfolding written
+      write-found y s e b f x g =
+          let done : accept (setState s (setBuffer x w)) bs ≡ accept (written (usedWorld w p u) (u .slot) offset bs) bs = cc in
+          done
+          ∙ ap (λ (v : World). accept (written v (u .slot) offset bs) bs) (used w p u c y)
+          ∙ ap (λ (i : ℕ). accept (written (foundWorld w p (found w p)) i offset bs) bs) (used-slot w p u c y)
+          ∙ write-by w p offset bs (found w p) (is-found w p u c y)
+          ∙ sym (meta-write (is-metadata w p k at m))
 
 -- grow
 module _ (w : World) (kind : ℕ) where
@@ -174,61 +182,49 @@ module _ (w : World) (kind : ℕ) where
   unfolding growReply
   grow-refused n e ne = sym (refused-by (refuse w []) _ asks n e ne)
 
-  module _ (g : Growth w kind) where
-    -- the state with one page more
-    module _ (z : State) (more : z ≡ setEnd (w .state .end + 1) (w .state)) where
-      pub grow-raw : (kind ≡ 0 → ⊥) → (x : List ℕ) → x ≡ lay (w .base) (w .state .end * pageSize w) (zeroPage w)
-          → accept (setState z (setKinds (set (w .kinds) (w .state .end) 1) (setBase x w))) [] ≡ growReply kind w
-      unfolding growReply grown
-      grow-raw k x e =
-          ap (λ (z : State). accept (setState z (setKinds (set (w .kinds) (w .state .end) 1) (setBase x w))) []) more
-          ∙ ap (λ (x : List ℕ). accept (setBase x (grown w 1)) []) e
-          ∙ sym (tested-passes (refuse w []) _ asks (g .passed) ∙ rw (ne-eqb _ _ k))
-
-    grow-meta : kind ≡ 0 → (o : Option Seat) → seatFor w (w .state .end) ≡ o → growReply kind w ≡ growSeated w o
+  module _ (g : Growth w kind) (k : ℕ) (at : k ≡ w .state .end) where
+    raw-grow : (kind ≡ 0 → ⊥) → growReply kind w ≡ accept (setBase (lay (w .base) (w .state .end * pageSize w) (zeroPage w)) (grown w 1)) []
     unfolding growReply
-    grow-meta k o e = tested-passes (refuse w []) _ asks (g .passed) ∙ rw (eq-eqb _ _ k, e)
+    raw-grow n = tested-passes (refuse w []) _ asks (g .passed) ∙ rw (ne-eqb _ _ n)
 
-    -- by the answer u of page e, which is in no slot
-    module _ (k : kind ≡ 0) (absent : slotFor w (w .state .end) ≡ none) (u : Use) (h : u ≡ useIn (alone w) (w .state .end)) where
-      abbrev seats : Option Seat → Use
-      seats o = useOf (w .state .slots) (w .state .end) (foundIn none o)
+    meta-grow : kind ≡ 0 → growReply kind w ≡ growSeated w (seatFor w (w .state .end))
+    unfolding growReply
+    meta-grow z = tested-passes (refuse w []) _ asks (g .passed) ∙ rw (eq-eqb _ _ z)
 
-      takes : u ≡ seats (seatFor w (w .state .end))
-      takes = h ∙ use-alone w (w .state .end) ∙ ap (useOf (w .state .slots) (w .state .end)) (found-absent w (w .state .end) absent)
+    pub grow-raw : (kind ≡ 0 → ⊥)
+        → (s : State) → s ≡ setEnd (w .state .end + 1) (w .state)
+        → (x : List ℕ) → x ≡ lay (w .base) (k * pageSize w) (zeroPage w)
+        → accept (setState s (setKinds (set (w .kinds) k 1) (setBase x w))) [] ≡ growReply kind w
+    unfolding grown
+    grow-raw n s e x f = cc (raw-grow n)
+
+    -- by the answer u for page e, which is in no slot
+    module _ (z : kind ≡ 0) (u : Use) (c : Chosen w (w .state .end) u) where
+      takes : u ≡ useOf (foundIn none (seatFor w (w .state .end)))
+      takes = chosen-seat w (w .state .end) u c (omega arith)
 
       pub grow-nowhere : u .found ≡ false → refuse w [] Refusals.noSlot ≡ growReply kind w
       unfolding growSeated
       grow-nowhere y =
-          sym (grow-meta k none (use-unseated (w .state .slots) (w .state .end) (seatFor w (w .state .end)) (sym (ap (λ (u : Use). u .found) takes) ∙ y)))
+          cc (ap (growSeated w) (use-unseated (seatFor w (w .state .end)) (sym (ap (λ (u : Use). u .found) takes) ∙ y)), meta-grow z)
 
-      -- the world after it, by the code's parts
-      abbrev grows : Slots → Counts → State → List ℕ → World
-      grows t c z x = setState (setSlots t (setMeta c z)) (setBuffer x (setKinds (set (w .kinds) (w .state .end) 0) w))
+      -- the world after it
+      abbrev grows : Use → World
+      grows u =
+          setState (seatedState (u .slot) (u .evicts) (w .state))
+          (setBuffer (lay (w .buffer) (u .slot * pageSize w) (zeroPage w)) (setKinds (set (w .kinds) (w .state .end) 0) w))
 
-      -- and by a use
-      abbrev growsBy : Use → World
-      growsBy u =
-          grows (marked (u .slot) (u .table)) (addEviction (u .evicts) (w .state .meta)) (setEnd (w .state .end + 1) (w .state))
-          (lay (w .buffer) (u .slot * pageSize w) (zeroPage w))
-
-      grow-used : (o : Option Seat) → seats o .found ≡ true → accept (growsBy (seats o)) [] ≡ growSeated w o
+      grow-by : (o : Option Seat) → seatFor w (w .state .end) ≡ o → useOf (foundIn none o) .found ≡ true → accept (grows (useOf (foundIn none o))) [] ≡ growSeated w o
       unfolding growSeated grown foundIn
-      grow-used none y = absurd (false≢true y)
-      grow-used (some x) y = refl
+      grow-by none e y = absurd (false≢true y)
+      grow-by (some x) e y = cc (seat-table (slotCount w) (unclean w) (w .state .end) (w .state .slots) x e)
 
-      pub grow-seated : u .found ≡ true → (t : Slots) → t ≡ marked (u .slot) (u .table) → (c : Counts) → c ≡ addEviction (u .evicts) (w .state .meta)
-          → (z : State) → z ≡ setEnd (w .state .end + 1) (w .state)
+      pub grow-seated : u .found ≡ true
+          → (s : State) → s ≡ seatedState (u .slot) (u .evicts) (w .state)
           → (x : List ℕ) → x ≡ lay (w .buffer) (u .slot * pageSize w) (zeroPage w)
-          → accept (grows t c z x) [] ≡ growReply kind w
-      grow-seated y t f c m z more x l =
-          ap (λ (t : Slots). accept (grows t c z x) []) f
-          ∙ ap (λ (c : Counts). accept (grows (marked (u .slot) (u .table)) c z x) []) m
-          ∙ ap (λ (z : State). accept (grows (marked (u .slot) (u .table)) (addEviction (u .evicts) (w .state .meta)) z x) []) more
-          ∙ ap (λ (x : List ℕ). accept (grows (marked (u .slot) (u .table)) (addEviction (u .evicts) (w .state .meta)) (setEnd (w .state .end + 1) (w .state)) x) []) l
-          ∙ ap (λ (u : Use). accept (growsBy u) []) takes
-          ∙ grow-used (seatFor w (w .state .end)) (sym (ap (λ (u : Use). u .found) takes) ∙ y)
-          ∙ sym (grow-meta k (seatFor w (w .state .end)) refl)
+          → accept (setState s (setBuffer x (setKinds (set (w .kinds) k 0) w))) [] ≡ growReply kind w
+      grow-seated y s e x f =
+          cc (ap grows takes, grow-by (seatFor w (w .state .end)) refl (sym (ap (λ (u : Use). u .found) takes) ∙ y), meta-grow z)
 
 -- open
 module _ (s : Settings) (end B : ℕ) (w : World) where
@@ -238,13 +234,13 @@ module _ (s : Settings) (end B : ℕ) (w : World) where
       ap (λ (z : State). refuse (setState z w) [] n) f
       ∙ sym (refused-by (refuse (setState zeroState w) []) _ (openTests s end B w) n e ne)
 
+  open-passed : Opening s end B w → openReply s end B w ≡ accept (opened s end B w) []
+  unfolding openReply
+  open-passed o = tested-passes (refuse (setState zeroState w) []) _ (openTests s end B w) (o .passed)
+
   pub open-done : Opening s end B w → (z : State) → z ≡ openState s end B
-      → (l : List ℕ) → l ≡ lay (w .ledger) 0 (replicate (ledgerLength s) 0)
+      → (n : ℕ) → n ≡ ledgerLength s → (l : List ℕ) → l ≡ lay (w .ledger) 0 (replicate n 0)
       → (x : List ℕ) → x ≡ lay (w .side) 0 (headerFor s (tick B) end [] ++ indexBytes s [])
       → accept (setState z (setLedger l (setSide x w))) [] ≡ openReply s end B w
-  unfolding openReply opened
-  open-done o z f l g x h =
-      ap (λ (z : State). accept (setState z (setLedger l (setSide x w))) []) f
-      ∙ ap (λ (l : List ℕ). accept (setState (openState s end B) (setLedger l (setSide x w))) []) g
-      ∙ ap (λ (x : List ℕ). accept (setState (openState s end B) (setLedger (lay (w .ledger) 0 (replicate (ledgerLength s) 0)) (setSide x w))) []) h
-      ∙ sym (tested-passes (refuse (setState zeroState w) []) _ (openTests s end B w) (o .passed))
+  unfolding opened
+  open-done o z f n m l g x h = cc (open-passed o)

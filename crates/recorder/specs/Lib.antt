@@ -9,6 +9,7 @@ pub mod Outcome
 pub mod Planned
 pub mod Rules
 pub mod Runs
+pub mod Seats
 pub mod Stored
 pub mod Stretches
 pub mod Tests

@@ -1,5 +1,6 @@
-// The page buffer: which slots may not be chosen, the slot in which a page is used, and the page's bytes there. States are
-// taken by value and none is handed back: what is changed comes as the new table alone.
+// The page buffer: which slots may not be chosen, the slot in which a page is used, and the page's bytes there. A slot is chosen
+// before anything is changed, and the table with the page in it is made afterwards: a table that came back with the answer
+// would be copied once more.
 use crate::State;
 use ledger::search;
 use sidefile::wide;
@@ -12,21 +13,32 @@ ghost use mathlib.Core.List.{[], map};
 ghost use Prim.Native.Nat.{_+_, _*_, _≤_};
 ghost use lib.ListN.{length};
 ghost use Rattle.lists.specs.Below.{below};
-ghost use Rattle.octets.specs.Part.{part};
-ghost use Rattle.recorder.specs.Calls as Calls;
+ghost use Rattle.octets.specs.Rows.{page};
 ghost use Rattle.recorder.specs.Calls.{unclean};
 ghost use Rattle.recorder.specs.Outcome.{lent};
 ghost use Rattle.recorder.specs.Rules.{rules};
-ghost use Rattle.recorder.specs.Using.{useOf, broughtTo};
+ghost use Rattle.recorder.specs.Using.{Places, placed, Chosen, broughtTo};
 
-// The slot in which a page is used: its own, a hit, or one that it takes, for which a page may have to go. The table is the
-// one after the use. Without a slot there is none to take, and the table is as it was.
+// The slot in which a page is used: its own, a hit, or one that it takes, for which a page may have to go; or there is none to
+// take.
 pub struct Use {
     pub found: bool,
     pub hit: bool,
     pub evicts: bool,
     pub slot: usize,
-    pub table: Slots,
+}
+
+impl Use {
+    // The table with the page used in its slot.
+    pub fn place(self, table: Slots, page: Page) -> Slots
+        requires { ⌜ Places self (page .0) table ⌝ }
+        ensures { λ r. ⌜ r ≡ placed self (page .0) table ⌝ }
+    {
+        if self.hit {
+            return table.touch(page);
+        }
+        table.take(self.slot, self.evicts, page)
+    }
 }
 
 // Which slots may not be chosen: those of changed and of owed pages.
@@ -48,10 +60,10 @@ fn unclean_slots(state: State, ledger: &[u8]) -> [bool; 16]
     mask
 }
 
-// A page used: one of the file's, or the next that it gets. No byte of it is copied here, and nothing is counted.
+// For one of the file's pages, or the next that it gets.
 pub fn slot_for(state: State, ledger: &[u8], page: Page) -> Use
     requires { ⌜ (rules (lent state (now ledger) [] [] [] []) ≡ true) × (page .0 ≤ state .end) ⌝ }
-    ensures { λ r. ⌜ r ≡ useOf (state .slots) (page .0) (Calls.found (lent state (now (ledger .entry)) [] [] [] []) (page .0)) ⌝ }
+    ensures { λ r. ⌜ Chosen (lent state (now (ledger .entry)) [] [] [] []) (page .0) r ⌝ }
 {
     let table = state.slots;
     match table.slot_of(wide(state.settings.slots), page) {
@@ -60,29 +72,27 @@ pub fn slot_for(state: State, ledger: &[u8], page: Page) -> Use
             hit: true,
             evicts: false,
             slot: i,
-            table: table.touch(page),
         },
         Found::Nothing => {
             let mask = unclean_slots(state, ledger);
-            let seat = table.seat(wide(state.settings.slots), mask, page);
-            let after = seat.table;
+            let seat = table.seat(wide(state.settings.slots), mask);
             Use {
                 found: seat.found,
                 hit: false,
                 evicts: seat.evicts,
                 slot: seat.slot,
-                table: after,
             }
         }
     }
 }
 
-// The bytes of a page in its slot: they are there on a hit, else they come from the base.
-pub fn bring(hit: bool, base: &[u8], page: Page, buffer: &mut [u8], slot: usize, size: usize)
-    requires { ⌜ (page .0 * size + size ≤ length (now base)) × (slot * size + size ≤ length (now buffer)) ⌝ }
-    ensures { λ _. ⌜ now (buffer .exit) ≡ broughtTo «hit» (now (buffer .entry)) (slot * size) (part (now (base .entry)) (page .0 * size) size) ⌝ }
+// The bytes of page k in its slot: they are there on a hit, else they come from the base.
+pub fn bring(hit: bool, base: &[u8], k: usize, buffer: &mut [u8], slot: usize, size: u32)
+    requires { ⌜ (k * size + size ≤ length (now base)) × (slot * size + size ≤ length (now buffer)) ⌝ }
+    ensures { λ _. ⌜ now (buffer .exit) ≡ broughtTo «hit» (now (buffer .entry)) (slot * size) (page size k (now (base .entry))) ⌝ }
 {
     if !hit {
-        octets::copy(base, wide(page.0) * size, buffer, slot * size, size);
+        let n = wide(size);
+        octets::copy(base, k * n, buffer, slot * n, n);
     }
 }

@@ -1,23 +1,21 @@
 // Open, read, write and grow. They take anything: every number, slice and state is judged before it is used. A refusal comes
 // before anything is written, and hands back the state that was given.
 use crate::Answer;
-use crate::Counts;
 use crate::State;
 use crate::buffer;
+use crate::spans;
 use crate::tests;
 use sidefile::encode;
 use sidefile::wide;
-use slots::Slots;
 use units::Page;
 use units::Settings;
 use units::Tick;
 use units::refusal;
 ghost use mathlib.Core.Path.{_≡_};
 ghost use mathlib.Core.List.{[]};
-ghost use Prim.Native.Nat.{_+_, _<_};
 ghost use Rattle.recorder.specs.Calls as Calls;
 ghost use Rattle.recorder.specs.Outcome.{lent, answered};
-ghost use Rattle.recorder.specs.World.{setEnd, zeroState};
+ghost use Rattle.recorder.specs.World.{zeroState};
 
 // The kind byte of a metadata page.
 const METADATA: u8 = 0;
@@ -37,76 +35,6 @@ impl Answer {
         ensures { λ r. ⌜ r ≡ record { number = number; state = state } ⌝ }
     {
         Answer { number, state }
-    }
-}
-
-impl State {
-    // The state of a refused open.
-    fn zero() -> State
-        ensures { λ r. ⌜ r ≡ zeroState ⌝ }
-    {
-        State {
-            settings: Settings {
-                size: 0,
-                slots: 0,
-                lag: 0,
-                capacity: 0,
-            },
-            end: 0,
-            closed: Tick(0),
-            entries: 0,
-            slots: Slots::zero(),
-            meta: Counts::none(),
-            raw: Counts::none(),
-        }
-    }
-
-    // The state of an accepted open.
-    fn first(settings: Settings, end: u32, tick: Tick) -> State
-        ensures { λ r. ⌜ r ≡ Calls.openState settings end (tick .0) ⌝ }
-    {
-        State {
-            settings,
-            end,
-            closed: tick,
-            entries: 0,
-            slots: Slots::empty(),
-            meta: Counts::none(),
-            raw: Counts::none(),
-        }
-    }
-
-    // The state with one page more.
-    fn grown(self) -> State
-        requires { ⌜ self .end < 4294967295 ⌝ }
-        ensures { λ r. ⌜ r ≡ setEnd (self .end + 1) self ⌝ }
-    {
-        State {
-            end: self.end + 1,
-            ..self
-        }
-    }
-
-    // The state with a raw access counted.
-    fn raw_bypass(self) -> State
-        ensures { λ r. ⌜ r ≡ Calls.rawBypass (lent self [] [] [] [] []) .state ⌝ }
-    {
-        let counts = self.raw;
-        State {
-            raw: counts.bypass(),
-            ..self
-        }
-    }
-
-    // The state with a metadata read counted that found no slot.
-    fn meta_bypass(self) -> State
-        ensures { λ r. ⌜ r ≡ Calls.metaBypass (lent self [] [] [] [] []) .state ⌝ }
-    {
-        let counts = self.meta;
-        State {
-            meta: counts.bypass(),
-            ..self
-        }
     }
 }
 
@@ -151,26 +79,20 @@ pub fn read(
     if number != 0 {
         return Answer::refused(number, state);
     }
-    let size = wide(state.settings.size);
-    let in_base = wide(page.0) * size + wide(offset);
-    if kinds[wide(page.0)] != METADATA {
-        octets::copy(base, in_base, into, 0, n);
+    let size = state.settings.size;
+    let k = wide(page.0);
+    if kinds[k] != METADATA {
+        spans::read_span(base, k, size, offset, into);
         return Answer::accepted(state.raw_bypass());
     }
     let used = buffer::slot_for(state, ledger, page);
     if !used.found {
-        octets::copy(base, in_base, into, 0, n);
+        spans::read_span(base, k, size, offset, into);
         return Answer::accepted(state.meta_bypass());
     }
-    buffer::bring(used.hit, base, page, buffer, used.slot, size);
-    octets::copy(buffer, used.slot * size + wide(offset), into, 0, n);
-    let table = used.table;
-    let counts = state.meta;
-    Answer::accepted(State {
-        slots: table,
-        meta: counts.used(used.hit, used.evicts),
-        ..state
-    })
+    buffer::bring(used.hit, base, k, buffer, used.slot, size);
+    spans::read_span(buffer, used.slot, size, offset, into);
+    Answer::accepted(state.used(used, page))
 }
 
 // The bytes laid over a page at an offset. 3, 2, 4, 5, 6, 7 or 0.
@@ -192,24 +114,19 @@ pub fn write(
     if number != 0 {
         return Answer::refused(number, state);
     }
-    let size = wide(state.settings.size);
-    if kinds[wide(page.0)] != METADATA {
-        octets::copy(bytes, 0, base, wide(page.0) * size + wide(offset), n);
+    let size = state.settings.size;
+    let k = wide(page.0);
+    if kinds[k] != METADATA {
+        spans::write_span(bytes, base, k, size, offset);
         return Answer::accepted(state.raw_bypass());
     }
     let used = buffer::slot_for(state, ledger, page);
     if !used.found {
         return Answer::refused(refusal::NO_SLOT, state);
     }
-    buffer::bring(used.hit, base, page, buffer, used.slot, size);
-    octets::copy(bytes, 0, buffer, used.slot * size + wide(offset), n);
-    let table = used.table;
-    let counts = state.meta;
-    Answer::accepted(State {
-        slots: table.mark(used.slot),
-        meta: counts.used(used.hit, used.evicts),
-        ..state
-    })
+    buffer::bring(used.hit, base, k, buffer, used.slot, size);
+    spans::write_span(bytes, buffer, used.slot, size, offset);
+    Answer::accepted(state.used(used, page).changed(used.slot))
 }
 
 // One zero page more, of the named kind. 3, 2, 5, 8, 7 or 0.
@@ -228,25 +145,18 @@ pub fn grow(
     if number != 0 {
         return Answer::refused(number, state);
     }
-    let size = wide(state.settings.size);
-    let end = wide(state.end);
+    let size = state.settings.size;
+    let k = wide(state.end);
     if kind != 0 {
-        octets::clear(base, end * size, size);
-        kinds[end] = RAW;
+        spans::clear_page(base, k, size);
+        kinds[k] = RAW;
         return Answer::accepted(state.grown());
     }
     let used = buffer::slot_for(state, ledger, Page(state.end));
     if !used.found {
         return Answer::refused(refusal::NO_SLOT, state);
     }
-    octets::clear(buffer, used.slot * size, size);
-    kinds[end] = METADATA;
-    let table = used.table;
-    let counts = state.meta;
-    let grown = state.grown();
-    Answer::accepted(State {
-        slots: table.mark(used.slot),
-        meta: counts.eviction(used.evicts),
-        ..grown
-    })
+    spans::clear_page(buffer, used.slot, size);
+    kinds[k] = METADATA;
+    Answer::accepted(state.seated(used.slot, used.evicts))
 }

@@ -4,22 +4,21 @@ use crate::State;
 use ledger::judge;
 use sidefile::wide;
 use slots::Slots;
+use units::Page;
 use units::Settings;
 use units::refusal;
 ghost use mathlib.Core.Path.{_≡_};
-ghost use mathlib.Core.Bool.{true, _||_};
+ghost use mathlib.Core.Bool.{true};
 ghost use mathlib.Core.List.{[]};
 ghost use Prim.Native.Nat.{_≤_};
-ghost use lib.Dec.{eqb};
-ghost use lib.ListN.{length, getD};
+ghost use lib.ListN.{length};
 ghost use Rattle.lists.specs.Below.{below};
 ghost use Rattle.lists.specs.Scans.{allOf};
 ghost use Rattle.units.specs.Sizes.{limits};
 ghost use Rattle.units.specs.Tests.{verdict};
-ghost use Rattle.slots.specs.Rules.{slotRules};
-ghost use Rattle.slots.specs.Table as Table;
 ghost use Rattle.recorder.specs.Outcome.{lent};
 ghost use Rattle.recorder.specs.Rules as Rules;
+ghost use Rattle.recorder.specs.Seats.{seatBelow, seatFits};
 ghost use Rattle.recorder.specs.World.{zeroState};
 
 // The rules that need no other slice than the ledger.
@@ -40,10 +39,19 @@ fn keeps_rules(state: State, ledger: &[u8]) -> bool
         return false;
     }
     let table = state.slots;
-    if !table.keeps_rules(wide(settings.slots), state.end) {
+    let seats = table.pages;
+    let changed = table.changed;
+    let order = table.order;
+    if !slots::judge::keeps_rules(
+        seats,
+        changed,
+        order,
+        table.used,
+        wide(settings.slots),
+        state.end,
+    ) {
         return false;
     }
-    let seats = table.pages;
     judge::keeps_rules(
         ledger,
         settings,
@@ -78,13 +86,13 @@ pub fn long_enough(
 }
 
 // The pages in slots are metadata. They are below e, and the kind table is longer.
-fn slots_fit(table: Slots, slots: usize, end: u32, kinds: &[u8]) -> bool
-    requires { ⌜ (slots ≤ 16) × (slotRules slots end table ≡ true) × (end ≤ length (now kinds)) ⌝ }
-    ensures { λ r. ⌜ r ≡ allOf (λ i. Table.vacant table i || eqb (getD (now (kinds .entry)) (Table.pageAt table i) 0) 0) (below slots) ⌝ }
+fn slots_fit(seats: [Page; 16], slots: usize, end: u32, kinds: &[u8]) -> bool
+    requires { ⌜ (slots ≤ 16) × (allOf (seatBelow end seats) (below slots) ≡ true) × (end ≤ length (now kinds)) ⌝ }
+    ensures { λ r. ⌜ r ≡ allOf (seatFits (now (kinds .entry)) seats) (below slots) ⌝ }
 {
     let mut i: usize = 0;
     while i < slots {
-        let held = table.pages[i];
+        let held = seats[i];
         if held.0 != Slots::NO_PAGE {
             if kinds[wide(held.0)] != 0 {
                 return false;
@@ -101,7 +109,8 @@ fn kinds_kept(state: State, ledger: &[u8], kinds: &[u8]) -> bool
     ensures { λ r. ⌜ r ≡ Rules.kindRules (lent state (now (ledger .entry)) [] [] [] (now (kinds .entry))) ⌝ }
 {
     let table = state.slots;
-    if !slots_fit(table, wide(state.settings.slots), state.end, kinds) {
+    let seats = table.pages;
+    if !slots_fit(seats, wide(state.settings.slots), state.end, kinds) {
         return false;
     }
     judge::kinds_fit(ledger, wide(state.entries), kinds)

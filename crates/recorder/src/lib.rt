@@ -8,6 +8,8 @@ pub mod counting;
 pub mod front;
 pub mod judge;
 pub mod plan;
+pub mod spans;
+pub mod states;
 pub mod stores;
 pub mod tests;
 

@@ -6,3 +6,5 @@ pub mod Accept
 pub mod Table
 pub mod Passed
 pub mod Sealed
+pub mod Told
+pub mod Tells

@@ -6,11 +6,12 @@ use crate::wide;
 use units::Settings;
 use units::refusal;
 ghost use mathlib.Core.Path.{_≡_};
+ghost use mathlib.Core.List.{_++_};
 ghost use Prim.Native.Nat.{_≤_, min};
 ghost use lib.ListN.{length};
 ghost use Rattle.units.specs.Tests.{passes, verdict};
-ghost use Rattle.sidefile.specs.Judge.{indexTests, wholeTests, frontTests, heldTests};
-ghost use Rattle.sidefile.specs.Passed.{mostFront, Indexed};
+ghost use Rattle.sidefile.specs.Judge.{markTests, headerTests, indexTests, wholeTests, frontTests, heldTests};
+ghost use Rattle.sidefile.specs.Passed.{asks, mostFront, Indexed};
 
 // The tests of 12 that concern the index.
 pub fn index_passes(s: &[u8]) -> bool
@@ -55,17 +56,24 @@ pub fn judge_whole(s: &[u8], n: usize) -> u32
     0
 }
 
-// Header and length of a side file of n bytes: 11, 12 or 0.
-pub fn judge_front(s: &[u8], n: usize) -> u32
-    ensures { λ r. ⌜ r ≡ verdict (frontTests n (now (s .entry))) ⌝ }
+// The header, and the length n: of a side file (whole), or of a held buffer. 11, 12 or 0.
+pub fn judge_header(s: &[u8], n: usize, whole: bool) -> u32
+    ensures { λ r. ⌜ r ≡ verdict (markTests (now (s .entry)) ++ headerTests (asks whole n) (now (s .entry))) ⌝ }
 {
     if !headers::well_marked(s) {
         return refusal::FOREIGN;
     }
-    if !headers::header_passes(s, n, true) {
+    if !headers::header_passes(s, n, whole) {
         return refusal::DAMAGED;
     }
     0
+}
+
+// Header and length of a side file of n bytes: 11, 12 or 0.
+pub fn judge_front(s: &[u8], n: usize) -> u32
+    ensures { λ r. ⌜ r ≡ verdict (frontTests n (now (s .entry))) ⌝ }
+{
+    judge_header(s, n, true)
 }
 
 // A held buffer.

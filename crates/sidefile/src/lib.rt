@@ -5,6 +5,7 @@ pub mod headers;
 pub mod judge;
 pub mod layout;
 pub mod rows;
+pub mod told;
 
 use units::Page;
 use units::Place;

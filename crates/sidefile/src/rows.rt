@@ -1,9 +1,11 @@
 // Rows of equal width in lent bytes, whose numbers are columns of 32 bits. The table begins at byte `at` and its rows have w
 // bytes: 16 from byte 36 on in the index of a side file, 20 from byte 0 on in the ledger. Both begin with the columns of an
 // index entry, so both are read and judged here.
+use crate::IndexEntry;
 use crate::layout;
 use crate::wide;
 use units::Page;
+use units::Place;
 use units::Settings;
 use units::Tick;
 ghost use mathlib.Core.Path.{_≡_};
@@ -13,6 +15,7 @@ ghost use lib.ListN.{length};
 ghost use Rattle.lists.specs.Scans.{allOf};
 ghost use Rattle.octets.specs.Part.{part};
 ghost use Rattle.octets.specs.Rows.{row};
+ghost use Rattle.sidefile.specs.Encode.{indexEntryOf};
 ghost use Rattle.sidefile.specs.Table.{column, entriesAt, ofPage, position, pagesFit, placesFit, changesFit};
 
 // Column c of row i.
@@ -21,6 +24,19 @@ pub fn number(s: &[u8], at: usize, w: usize, i: usize, c: usize) -> u32
     ensures { λ r. ⌜ (r ≡ column c (row at w i (now (s .entry)))) × (r < 4294967296) ⌝ }
 {
     octets::load32(s, at + i * w + 4 * c)
+}
+
+// The entry in row i.
+pub fn entry(s: &[u8], at: usize, w: usize, i: usize) -> IndexEntry
+    requires { ⌜ (at + i * w + w ≤ length (now s)) × (16 ≤ w) ⌝ }
+    ensures { λ r. ⌜ r ≡ indexEntryOf (row at w i (now (s .entry))) ⌝ }
+{
+    IndexEntry {
+        page: Page(number(s, at, w, i, layout::PAGE)),
+        place: Place(number(s, at, w, i, layout::PLACE)),
+        changed: Tick(number(s, at, w, i, layout::CHANGED)),
+        sum: number(s, at, w, i, layout::SUM),
+    }
 }
 
 // Which of n rows is the first of a page, or n.

@@ -109,7 +109,7 @@ module _ (S end : ℕ) (t : Slots) (w : Whole t) (few : S ≤ 16) (small : end �
         go false q (yes k) = rw (lt-ltb i S k, s .once i k q)
         go false q (no k) = absurd (not-both (vacant t i) (s .spare i (omega (arith, k)) h .0) q)
 
-    use-passes : (p : ℕ) → Listed S end t p → useKept end t p ≡ true
+    use-passes : (p : ℕ) → Listed S end t p → useKept end (t .pages) p ≡ true
     unfolding useKept
     use-passes p l =
         let i = l .1 .0 in
@@ -122,7 +122,7 @@ module _ (S end : ℕ) (t : Slots) (w : Whole t) (few : S ≤ 16) (small : end �
         other j h e (no k) = absurd (omega (arith, l .0, e, vacant-page t j (s .spare j (omega (arith, k)) h .0)))
 
   -- from the tests
-  module _ (u : t .used ≤ 16) (r : (i : ℕ) → i < 16 → rowKept S t i ≡ true) (q : Every (λ p. useKept end t p ≡ true) (uses t)) where
+  module _ (u : t .used ≤ 16) (r : (i : ℕ) → i < 16 → rowKept S t i ≡ true) (q : Every (λ p. useKept end (t .pages) p ≡ true) (uses t)) where
     -- an empty row, and another
     row-empty : (i : ℕ) → i < 16 → vacant t i ≡ true → changedAt t i ≡ false
     unfolding rowKept
@@ -135,13 +135,13 @@ module _ (S end : ℕ) (t : Slots) (w : Whole t) (few : S ≤ 16) (small : end �
         (ltb-true i S (b .0), eqb-true (times (pageAt t i) (uses t)) 1 (b .1))
 
     -- a page that is used
-    use-listed : (p : ℕ) → useKept end t p ≡ true → (p < end) × Once (pageAt t) p 0 16
+    use-listed : (p : ℕ) → useKept end (t .pages) p ≡ true → (p < end) × Once (pageAt t) p 0 16
     unfolding useKept
     use-listed p h =
         let b = both (ltb p end) (eqb (times p (numbersOf 16 (t .pages))) 1) h in
         (ltb-true p end (b .0), once (pageAt t) p 0 16 (rw (rows t w) at (eqb-true (times p (numbersOf 16 (t .pages))) 1 (b .1))))
 
-    use-slot : (p : ℕ) → useKept end t p ≡ true → Listed S end t p
+    use-slot : (p : ℕ) → useKept end (t .pages) p ≡ true → Listed S end t p
     use-slot p h =
         let l = use-listed p h in
         let i = l .1 .0 in
@@ -149,7 +149,7 @@ module _ (S end : ℕ) (t : Slots) (w : Whole t) (few : S ≤ 16) (small : end �
         (l .0, (i, slot-only S t p i (k .0) (l .1 .3) (λ j m e. l .1 .4 j (omega arith) (omega arith) e)))
 
     -- a row that is used
-    row-listed : (i : ℕ) → i < 16 → vacant t i ≡ false → useKept end t (pageAt t i) ≡ true
+    row-listed : (i : ℕ) → i < 16 → vacant t i ≡ false → useKept end (t .pages) (pageAt t i) ≡ true
     row-listed i h v = every-there (pageAt t i) (uses t) q (omega (arith, row-used i h v .1))
 
     row-found : (i : ℕ) → i < S → vacant t i ≡ false → slotOf S t (pageAt t i) ≡ some i
@@ -182,25 +182,25 @@ module _ (S end : ℕ) (t : Slots) (w : Whole t) (few : S ≤ 16) (small : end �
           spare = λ i k h. (row-spare i k h, row-empty i h (row-spare i k h));
         }
 
-  pub judged : (leb (t .used) 16 && allOf (rowKept S t) (below 16) && allOf (useKept end t) (uses t)) ≡ slotRules S end t
-  judged = same (leb (t .used) 16 && allOf (rowKept S t) (below 16) && allOf (useKept end t) (uses t)) (slotRules S end t) there back
+  pub judged : (leb (t .used) 16 && allOf (rowKept S t) (below 16) && allOf (useKept end (t .pages)) (uses t)) ≡ slotRules S end t
+  judged = same (leb (t .used) 16 && allOf (rowKept S t) (below 16) && allOf (useKept end (t .pages)) (uses t)) (slotRules S end t) there back
     where
       same : (a b : Bool) → (a ≡ true → b ≡ true) → (b ≡ true → a ≡ true) → a ≡ b
       same true b f g = sym (f refl)
       same false true f g = g refl
       same false false f g = refl
 
-      there : (leb (t .used) 16 && allOf (rowKept S t) (below 16) && allOf (useKept end t) (uses t)) ≡ true → slotRules S end t ≡ true
+      there : (leb (t .used) 16 && allOf (rowKept S t) (below 16) && allOf (useKept end (t .pages)) (uses t)) ≡ true → slotRules S end t ≡ true
       there h =
-          let a = both (leb (t .used) 16 && allOf (rowKept S t) (below 16)) (allOf (useKept end t) (uses t)) h in
+          let a = both (leb (t .used) 16 && allOf (rowKept S t) (below 16)) (allOf (useKept end (t .pages)) (uses t)) h in
           let b = both (leb (t .used) 16) (allOf (rowKept S t) (below 16)) (a .0) in
           sits-back
           (sits-counted (leb-true (t .used) 16 (b .0))
           (λ i k. all-from (rowKept S t) 0 16 i (omega arith) (omega arith) (b .1))
-          (allOf-every (useKept end t) (uses t) (a .1)))
+          (allOf-every (useKept end (t .pages)) (uses t) (a .1)))
 
-      back : slotRules S end t ≡ true → (leb (t .used) 16 && allOf (rowKept S t) (below 16) && allOf (useKept end t) (uses t)) ≡ true
+      back : slotRules S end t ≡ true → (leb (t .used) 16 && allOf (rowKept S t) (below 16) && allOf (useKept end (t .pages)) (uses t)) ≡ true
       back h =
           let s = sits S end t w few h in
           rw (le-leb (t .used) 16 (s .used), all-below (rowKept S t) 0 16 (λ i _ k. row-passes s i (omega arith)))
-          (every-allOf (useKept end t) (use-passes s) (uses t) (s .listed))
+          (every-allOf (useKept end (t .pages)) (use-passes s) (uses t) (s .listed))

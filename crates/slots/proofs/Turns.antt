@@ -82,9 +82,9 @@ module _ (S : ℕ) (t : Slots) (i : ℕ) where
   unfolding rowKept vacant pageAt
   row-past n h = rw (ne-eqb (pageAt t i) noPage n, le-ltb i S h)
 
-  pub row-counted : (getD (t .pages) i (toPage 0) .0 ≡ noPage → ⊥) → i < S → (k u : ℕ) → k ≡ times (getD (t .pages) i (toPage 0) .0) (numbersOf u (t .order)) → u ≡ t .used → rowKept S t i ≡ eqb k 1
+  pub row-counted : (getD (t .pages) i (toPage 0) .0 ≡ noPage → ⊥) → i < S → (k : ℕ) → k ≡ times (getD (t .pages) i (toPage 0) .0) (numbersOf (t .used) (t .order)) → rowKept S t i ≡ eqb k 1
   unfolding rowKept vacant pageAt uses
-  row-counted n h k u e d = rw (ne-eqb (pageAt t i) noPage n, lt-ltb i S h, e, d)
+  row-counted n h k e = rw (ne-eqb (pageAt t i) noPage n, lt-ltb i S h, e)
 
 -- the first n pages of an array, from k on
 module _ (l : List Page) (n k : ℕ) (m : n ≤ length l) where
@@ -123,19 +123,19 @@ module _ (l : List Page) (n k : ℕ) (m : n ≤ length l) where
         go (yes h) = rw (listed-next h, ne-eqb (getD l k (toPage 0) .0) p e)
         go (no h) = times-past (omega (arith, h))
 
--- a test of the pages in the order of use, from the k-th on
-module _ (test : ℕ → Bool) (t : Slots) (k : ℕ) (m : t .used ≤ length (t .order)) where
-  pub uses-here : k < t .used → test (getD (t .order) k (toPage 0) .0) ≡ false → allOf test (drop k (uses t)) ≡ false
-  unfolding allOf uses
-  uses-here h e = rw (listed-next (t .order) (t .used) k m h, e)
+  -- a test of them
+  module _ (test : ℕ → Bool) where
+    pub uses-here : k < n → test (getD l k (toPage 0) .0) ≡ false → allOf test (drop k (numbersOf n l)) ≡ false
+    unfolding allOf
+    uses-here h e = rw (listed-next h, e)
 
-  pub uses-next : k < t .used → test (getD (t .order) k (toPage 0) .0) ≡ true → allOf test (drop k (uses t)) ≡ allOf test (drop (k + 1) (uses t))
-  unfolding allOf uses
-  uses-next h e = rw (listed-next (t .order) (t .used) k m h, e)
+    pub uses-next : k < n → test (getD l k (toPage 0) .0) ≡ true → allOf test (drop k (numbersOf n l)) ≡ allOf test (drop (k + 1) (numbersOf n l))
+    unfolding allOf
+    uses-next h e = rw (listed-next h, e)
 
-  pub uses-end : t .used ≤ k → allOf test (drop k (uses t)) ≡ true
-  unfolding allOf uses
-  uses-end h = rw (listed-end (t .order) (t .used) k m h)
+    pub uses-end : n ≤ k → allOf test (drop k (numbersOf n l)) ≡ true
+    unfolding allOf
+    uses-end h = rw (listed-end h)
 
 -- the victim, from the k-th page in the order of use on
 module _ (S : ℕ) (mask : List Bool) (t : Slots) where

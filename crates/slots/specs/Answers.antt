@@ -1,10 +1,11 @@
--- What the code's answers say in the terms of the table: a search's answer, a seating; and what uses, loads and evictions share.
+-- What the code's answers say in the terms of the table: a search's answer, a seating, the table after it; and what uses, loads
+-- and evictions share.
 use Prim.Native.Nat.{ℕ}
-use mathlib.Core.Bool.{true, false}
+use mathlib.Core.Bool.{Bool, true, false}
 use mathlib.Core.List.{[], _∷_, _++_, map}
 use mathlib.Core.Option.{Option, some, none}
 use lib.ListN.{set}
-use Rattle.slots.specs.Table.{toPage, setPage, setChanged, setOrder, uses, spareUses, without, Seat}
+use Rattle.slots.specs.Table.{toPage, setPage, setChanged, setOrder, uses, spareUses, without, loaded, evicted, Seat}
 use Rattle.slots.specs.declared.Found.{Found}
 use Rattle.slots.specs.declared.Found.the-variants.{At, Nothing}
 use Rattle.slots.specs.declared.Seating.{Seating}
@@ -14,10 +15,15 @@ abbrev pub toOption : Found → Option ℕ
 toOption (At i) = some i
 toOption Nothing = none
 
--- the seat that was taken; without one, the table t as it was
-abbrev pub seating : Slots → Option Seat → Seating
-seating t (some s) = record { found = true; slot = s .slot; table = s .table; evicts = s .evicts }
-seating t none = record { found = false; slot = 0; table = t; evicts = false }
+-- the seat that a page gets, without the table that it makes
+abbrev pub seating : Option Seat → Seating
+seating (some s) = record { found = true; slot = s .slot; evicts = s .evicts }
+seating none = record { found = false; slot = 0; evicts = false }
+
+-- the table with page p in slot i, an empty one or one whose page is evicted
+abbrev pub taken : ℕ → Bool → ℕ → Slots → Slots
+taken i false p t = loaded i p t
+taken i true p t = evicted i p t
 
 -- the table with page p in slot i, not changed
 abbrev pub fresh : ℕ → ℕ → Slots → Slots

@@ -2,9 +2,11 @@
 -- (Counted has the law).
 use Prim.Native.Nat.{ℕ}
 use mathlib.Core.Bool.{Bool, not, _&&_}
+use mathlib.Core.List.{List}
 use lib.Dec.{eqb, ltb}
 use Rattle.lists.specs.Bools.{if-then}
 use Rattle.units.specs.Pages.{numbersOf}
+use Rattle.units.specs.declared.Page.{Page}
 use Rattle.slots.specs.Table.{pageAt, vacant, changedAt, uses, times}
 use Rattle.slots.specs.declared.Slots.{Slots}
 
@@ -13,5 +15,5 @@ unfoldable pub rowKept : ℕ → Slots → ℕ → Bool
 rowKept S t i = if-then (vacant t i) (not (changedAt t i)) (ltb i S && eqb (times (pageAt t i) (uses t)) 1)
 
 -- a page in the order of use is below e and in one row
-unfoldable pub useKept : ℕ → Slots → ℕ → Bool
-useKept end t p = ltb p end && eqb (times p (numbersOf 16 (t .pages))) 1
+unfoldable pub useKept : ℕ → List Page → ℕ → Bool
+useKept end pages p = ltb p end && eqb (times p (numbersOf 16 pages)) 1

@@ -19,6 +19,10 @@ toPage n = record { 0 = n }
 abbrev pub noPage : ℕ
 noPage = 4294967295
 
+-- a table by its arrays and the length of its order of use
+abbrev pub tableOf : List Page → List ℕ → List Page → ℕ → Slots
+tableOf pages changed order used = record { pages = pages; changed = changed; order = order; used = used }
+
 -- one setter to a field, or to two that change together
 abbrev pub setPage : ℕ → ℕ → Slots → Slots
 setPage i p t = record { pages = set (t .pages) i (toPage p); changed = t .changed; order = t .order; used = t .used }

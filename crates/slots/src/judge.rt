@@ -1,6 +1,7 @@
 // The judge of the slot rules, for any table. It counts: each page in the order of use is below e and in one row, each
 // occupied row is a slot whose page is once in the order of use, each empty row is not changed. Nothing else is left of the
-// rules, and counting all 16 elements is quicker than a search that may stop at each.
+// rules, and counting all 16 elements is quicker than a search that may stop at each. The arrays are taken one by one: a table
+// by value would be copied at each step.
 use crate::Slots;
 use crate::wide;
 use units::Page;
@@ -10,6 +11,7 @@ ghost use Rattle.lists.specs.Below.{below};
 ghost use Rattle.lists.specs.Scans.{allOf};
 ghost use Rattle.units.specs.Pages.{numbersOf};
 ghost use Rattle.slots.specs.Table as Table;
+ghost use Rattle.slots.specs.Table.{tableOf};
 ghost use Rattle.slots.specs.Rules.{slotRules};
 ghost use Rattle.slots.specs.Judged.{rowKept, useKept};
 
@@ -32,63 +34,70 @@ fn times(list: [Page; 16], n: usize, page: Page) -> u32
     count
 }
 
-impl Slots {
-    fn rows_kept(self, slots: usize) -> bool
-        requires { ⌜ self .used ≤ 16 ⌝ }
-        ensures { λ r. ⌜ r ≡ allOf (rowKept slots self) (below 16) ⌝ }
-    {
-        let used = wide(self.used);
-        let order = self.order;
-        let mut i: usize = 0;
-        while i < 16 {
-            let held = self.pages[i];
-            if held.0 == Slots::NO_PAGE {
-                if self.changed[i] != 0 {
-                    return false;
-                }
-            } else {
-                if slots <= i {
-                    return false;
-                }
-                if times(order, used, held) != 1 {
-                    return false;
-                }
-            }
-            i += 1;
-        }
-        true
-    }
-
-    fn uses_kept(self, end: u32) -> bool
-        requires { ⌜ self .used ≤ 16 ⌝ }
-        ensures { λ r. ⌜ r ≡ allOf (useKept end self) (Table.uses self) ⌝ }
-    {
-        let used = wide(self.used);
-        let pages = self.pages;
-        let mut k: usize = 0;
-        while k < used {
-            let page = self.order[k];
-            if end <= page.0 {
+fn rows_kept(
+    pages: [Page; 16],
+    changed: [u8; 16],
+    order: [Page; 16],
+    used: usize,
+    slots: usize,
+) -> bool
+    requires { ⌜ used ≤ 16 ⌝ }
+    ensures { λ r. ⌜ r ≡ allOf (rowKept slots (tableOf pages changed order used)) (below 16) ⌝ }
+{
+    let mut i: usize = 0;
+    while i < 16 {
+        let held = pages[i];
+        if held.0 == Slots::NO_PAGE {
+            if changed[i] != 0 {
                 return false;
             }
-            if times(pages, 16, page) != 1 {
+        } else {
+            if slots <= i {
                 return false;
             }
-            k += 1;
+            if times(order, used, held) != 1 {
+                return false;
+            }
         }
-        true
+        i += 1;
     }
+    true
+}
 
-    pub fn keeps_rules(self, slots: usize, end: u32) -> bool
-        requires { ⌜ slots ≤ 16 ⌝ }
-        ensures { λ r. ⌜ r ≡ slotRules slots end self ⌝ }
-    {
-        if 16 < self.used {
+fn uses_kept(pages: [Page; 16], order: [Page; 16], used: usize, end: u32) -> bool
+    requires { ⌜ used ≤ 16 ⌝ }
+    ensures { λ r. ⌜ r ≡ allOf (useKept end pages) (numbersOf used order) ⌝ }
+{
+    let mut k: usize = 0;
+    while k < used {
+        let page = order[k];
+        if end <= page.0 {
             return false;
         }
-        if !self.rows_kept(slots) {
+        if times(pages, 16, page) != 1 {
             return false;
         }
-        self.uses_kept(end)
+        k += 1;
     }
+    true
+}
+
+pub fn keeps_rules(
+    pages: [Page; 16],
+    changed: [u8; 16],
+    order: [Page; 16],
+    used: u32,
+    slots: usize,
+    end: u32,
+) -> bool
+    requires { ⌜ slots ≤ 16 ⌝ }
+    ensures { λ r. ⌜ r ≡ slotRules slots end (tableOf pages changed order used) ⌝ }
+{
+    if 16 < used {
+        return false;
+    }
+    if !rows_kept(pages, changed, order, wide(used), slots) {
+        return false;
+    }
+    uses_kept(pages, order, wide(used), end)
 }

@@ -25,12 +25,10 @@ pub enum Found {
     Nothing,
 }
 
-// The slot that a page took, the table with it there, and whether a page was evicted for it. Where none was to be had the
-// table is as it was.
+// The slot that a page gets, and whether a page is evicted for it; or none is to be had.
 pub struct Seating {
     pub found: bool,
     pub slot: usize,
-    pub table: Slots,
     pub evicts: bool,
 }
 

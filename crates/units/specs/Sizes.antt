@@ -33,6 +33,10 @@ pageSize P = eqb P 512 || eqb P 1024 || eqb P 2048 || eqb P 4096
 unfoldable pub limits : Settings → Bool
 limits s = pageSize (s .size) && between 1 16 (s .slots) && between 3 8 (s .lag) && between 1 65535 (s .capacity)
 
+-- a span of n bytes at an offset is not empty and ends inside its page
+abbrev pub insidePage : ℕ → ℕ → ℕ → Bool
+insidePage P offset n = leb 1 n && leb (offset + n) P
+
 -- the ticks that the ages count by: the maximum lag
 unfoldable pub wait : Settings → ℕ
 wait s = s .lag

@@ -18,11 +18,24 @@ use Rattle.desk.proofs.Replied.{refresh-refused, refresh-short, refresh
 use Rattle.desk.proofs.refresh.Statement.{statement}
 use Rattle.desk.proofs.refresh.Tie as tie
 
+-- places from the end back: the pages marked, the new header shown and room for its marks, the first tests passed, the entry
+abbrev start : tie.Else1 → tie.Start
+start c = c .before .before .before .before .before .before
+
+abbrev shown : tie.Else2 → tie.After-header-of
+shown c = c .before .before
+
+abbrev marked : tie.After-copy-arg → tie.After-mark
+marked c = c .before .before .before
+
+abbrev roomy : tie.After-mark → tie.Else2
+roomy c = c .before .before .before .before
+
 abbrev side : tie.Else1 → List ℕ
-side c = c .before .before .before .before .before .before .args .side .now
+side c = start c .args .side .now
 
 abbrev held : tie.Else1 → List ℕ
-held c = c .before .before .before .before .before .before .args .held .now
+held c = start c .args .held .now
 
 good : (c : tie.Else1) → passes (followTests true (held c) (side c)) ≡ true
 good c = follows true _ _ (sym (c .if1 .left) ∙ c .before .follow .ensures)
@@ -34,11 +47,7 @@ whole c = whole-passed _ _ (followed true _ _ (good c) .shown)
 end : (c : tie.After-wide) → c .wide .result ≡ headerOf (side (c .before .before)) .end
 end c = c .wide .ensures .0 ∙ ap (λ (h : Header). h .end) (c .before .header-of .ensures)
 
--- past the tests: the new header, and room for its marks
-abbrev shown : tie.Else2 → tie.After-header-of
-shown c = c .before .before
-
-room : (c : tie.Else2) → shown c .header-of .result .end ≤ length (c .before .before .before .before .before .before .before .before .before .args .marks .now)
+room : (c : tie.Else2) → shown c .header-of .result .end ≤ length (start (shown c .before) .args .marks .now)
 room c = omega (arith, c .before .wide .ensures .0, c .if2 .left)
 
 follow-requires : tie.Need-follow-requires
@@ -63,19 +72,21 @@ returns-2 : tie.Need-returns-2
 returns-2 c = refresh-short _ _ _ (good (c .before .before .before)) (rw (end (c .before)) at (c .if2 .taken))
 
 header-of-requires-2 : tie.Need-header-of-requires-2
-header-of-requires-2 c κs = followed true _ _ (good (c .before .before .before .before)) .kept .front .whole
+header-of-requires-2 c κs = followed true _ _ (good (shown (c .before) .before)) .kept .front .whole
 
 mark-requires : tie.Need-mark-requires
-mark-requires c κs = markable _ _ (whole (c .before .before .before .before .before .before)) _ (c .before .before .before .before .before .header-of .ensures) (room (c .before .before .before))
+mark-requires c κs =
+    let r = c .before .before .before in
+    markable _ _ (whole (shown r .before)) _ (shown r .header-of .ensures) (room r)
 
 held-length-requires : tie.Need-held-length-requires
 held-length-requires c κs =
-    let e = shown (c .before .before .before .before .before .before .before) in
+    let e = shown (roomy (marked c)) in
     ap (λ (h : Header). limits (h .settings)) (e .header-of .ensures) ∙ whole (e .before) .front .header .limited
 
 copy-requires : tie.Need-copy-requires
 copy-requires c κs =
-    let e = shown (c .before .before .before .before .before .before .before .before) in
+    let e = shown (roomy (marked (c .before))) in
     let long = c .held-length .ensures .0 ∙ ap (λ (h : Header). indexEnd (h .settings)) (e .header-of .ensures) in (
       omega (arith, long, whole-indexed _ (whole (e .before)) .reached),
       omega (arith, long, held-room true _ _ (followed true _ _ (good (e .before)))),
@@ -89,11 +100,12 @@ same-length-4 c = search needs
 
 returns-3 : tie.Need-returns-3
 returns-3 c =
-    let m = c .before .before .before .before .before .before .before in
-    let e = shown (m .before .before .before .before) in
+    let l = c .before .before .before in
+    let m = marked (l .before) in
+    let e = shown (roomy m) in
     rw (c .before .before .copy .ensures, m .mark .ensures)
-    (refresh-done _ _ _ (good (e .before)) _ _ (m .before .before .header-of2 .ensures) (e .header-of .ensures) (room (m .before .before .before .before)) _
-    (c .before .before .before .held-length .ensures .0))
+    (refresh-done _ _ _ (good (e .before)) _ _ (m .before .before .header-of2 .ensures) (e .header-of .ensures) (room (roomy m)) _
+    (l .held-length .ensures .0))
 
 pub refresh-spec : {M : Type 1} → statement M
 refresh-spec =

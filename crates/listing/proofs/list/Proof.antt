@@ -19,16 +19,32 @@ use borrow.Author.Needs.{needs}
 use Rattle.listing.proofs.list.Statement.{statement}
 use Rattle.listing.proofs.list.Tie as tie
 
+-- from the end back: where the entries were counted, the first line written, the header read; and the entry
+abbrev ended : tie.After-slice-known4 → tie.After-wide
+ended c = c .before .before .before
+
+abbrev headed : tie.After-wide → tie.After-put-head
+headed c = c .before .before .before .before
+
+abbrev read : tie.After-put-head → tie.After-header-of
+read c = c .before .before
+
+abbrev start : tie.After-judge-whole → tie.Start
+start c = c .before .before .before
+
+abbrev bytes : tie.Else1 → List ℕ
+bytes c = start (c .before) .args .s .now
+
 -- the judge answered 0
-accepted : (c : tie.Else1) → passes (wholeTests (c .before .before .before .before .args .n) (c .before .before .before .before .args .s .now)) ≡ true
+accepted : (c : tie.Else1) → passes (wholeTests (start (c .before) .args .n) (bytes c)) ≡ true
 accepted c = whole-accepted _ _ (sym (c .before .judge-whole .ensures) ∙ c .if1 .left)
 
 -- so the index is at hand, and its entries are few
-reached : (c : tie.Else1) → headerLength + indexRow * headerOf (c .before .before .before .before .args .s .now) .entries ≤ length (c .before .before .before .before .args .s .now)
-reached c = accepted-reached _ _ (accepted c) (c .before .before .before .before .pre .0)
+reached : (c : tie.Else1) → headerLength + indexRow * headerOf (bytes c) .entries ≤ length (bytes c)
+reached c = accepted-reached _ _ (accepted c) (start (c .before) .pre .0)
 
-few : (c : tie.Else1) → headerOf (c .before .before .before .before .args .s .now) .entries ≤ 144
-few c = accepted-few _ _ (accepted c) (c .before .before .before .before .pre .0)
+few : (c : tie.Else1) → headerOf (bytes c) .entries ≤ 144
+few c = accepted-few _ _ (accepted c) (start (c .before) .pre .0)
 
 -- the header that was read, and as many entries as it says
 lines : (s : List ℕ) (h : Header) (n : ℕ) → h ≡ headerOf s → n ≡ h .entries
@@ -37,8 +53,8 @@ lines s h n e m =
     (λ i. headLine (e i) ++ entryLines (entriesAt headerLength indexRow ((m ∙ ap (λ (g : Header). g .entries) e) i) s))
     ∙ ap (λ (l : List IndexEntry). headLine (headerOf s) ++ entryLines l) (sym (index-entries s))
 
-counted : (c : tie.After-wide) → c .wide .result ≡ headerOf (c .before .before .before .before .before .before .before .before .before .before .before .args .s .now) .entries
-counted c = c .wide .ensures .0 ∙ ap (λ (g : Header). g .entries) (c .before .before .before .before .before .before .header-of .ensures)
+counted : (c : tie.After-wide) → c .wide .result ≡ headerOf (bytes (read (headed c) .before)) .entries
+counted c = c .wide .ensures .0 ∙ ap (λ (g : Header). g .entries) (read (headed c) .header-of .ensures)
 
 judge-whole-requires : tie.Need-judge-whole-requires
 judge-whole-requires c κs = search needs
@@ -51,9 +67,11 @@ same-length c = search needs
 
 returns : tie.Need-returns
 returns c =
-    let a = c .before .before .before .before .before .before .before .before .args in
-    let e = listing-refused (a .n) (a .s .now) _ (c .before .before .before .before .before .judge-whole .ensures) (c .before .before .before .before .if1 .taken) in
-    (written-as (sym e) (c .before .before .put-refused .ensures .0), search needs)
+    let w = c .before .before in
+    let t = w .before .before in
+    let a = start (t .before) .args in
+    let e = listing-refused (a .n) (a .s .now) _ (t .before .judge-whole .ensures) (t .if1 .taken) in
+    (written-as (sym e) (w .put-refused .ensures .0), search needs)
 
 header-of-requires : tie.Need-header-of-requires
 header-of-requires c κs = omega (arith, reached c)
@@ -66,7 +84,7 @@ wide-requires c κs = search needs
 
 put-entries-requires : tie.Need-put-entries-requires
 put-entries-requires c κs =
-    let h = c .before .before .before .before .before .before .before in
+    let h = read (headed c) .before in
     omega (arith, reached h, few h, counted c)
 
 same-length-2 : tie.Need-same-length-2
@@ -74,12 +92,12 @@ same-length-2 c = search needs
 
 returns-2 : tie.Need-returns-2
 returns-2 c =
-    let h = c .before .before .before .before .before .before .before .before .before in
-    let a = h .before .before .before .before .before .args in
-    let n = c .before .before .before in
+    let n = ended c in
+    let h = read (headed n) in
+    let a = start (h .before .before) .args in
     let l = lines (a .s .now) (h .header-of .result) (n .wide .result) (h .header-of .ensures) (n .wide .ensures .0) in
     let e = listing-accepted (a .n) (a .s .now) (accepted (h .before)) in (
-      written-as (l ∙ sym e) (written-next (c .before .before .before .before .before .before .before .put-head .ensures .0) (c .before .before .put-entries .ensures .0)),
+      written-as (l ∙ sym e) (written-next (headed n .put-head .ensures .0) (c .before .before .put-entries .ensures .0)),
       omega (arith, few (h .before), counted n),
     )
 

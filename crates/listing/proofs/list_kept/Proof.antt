@@ -8,6 +8,13 @@ use borrow.Author.Needs.{needs}
 use Rattle.listing.proofs.list_kept.Statement.{statement}
 use Rattle.listing.proofs.list_kept.Tie as tie
 
+-- from the end back: how much is at hand, and the entry
+abbrev limited : tie.After-slice-known2 → tie.After-least
+limited c = c .before .before .before .before .before
+
+abbrev start : tie.After-least → tie.Start
+start c = c .before .before .before
+
 least-requires : tie.Need-least-requires
 least-requires c κs = search needs
 
@@ -22,8 +29,9 @@ same-length c = search needs
 
 returns : tie.Need-returns
 returns c =
-    let a = c .before .before .before .before .before .before .before .before .args in
-    let e = c .before .before .before .before .before .least .ensures in
+    let l = limited c in
+    let a = start l .args in
+    let e = l .least .ensures in
     (written-as (ap (λ (k : ℕ). listing (a .total) (take k (a .kept .now))) e) (c .before .before .list .ensures .0), search needs)
 
 pub list-kept-spec : {M : Type 1} → statement M

@@ -13,17 +13,20 @@ use Rattle.desk.proofs.Followed.{held-fails, side-fails, pair-decides, 
 use Rattle.desk.proofs.follow.follow.Statement.{statement}
 use Rattle.desk.proofs.follow.follow.Tie as tie
 
+abbrev start : tie.Else1 → tie.Start
+start c = c .before .before .before .before
+
 abbrev held : tie.Else1 → List ℕ
-held c = c .before .before .before .before .args .held .now
+held c = start c .args .held .now
 
 abbrev side : tie.Else1 → List ℕ
-side c = c .before .before .before .before .args .side .now
+side c = start c .args .side .now
 
 held-good : (c : tie.Else1) → passes (heldTests (held c)) ≡ true
 held-good c = sym (c .before .held-passes .ensures) ∙ not-false _ (c .if1 .left)
 
 abbrev whole : tie.Else1 → Bool
-whole c = c .before .before .before .before .args .whole
+whole c = start c .args .whole
 
 side-good : (c : tie.Else2) → passes (sideTests (whole (c .before .before)) (side (c .before .before))) ≡ true
 side-good c = side-follows _ _ (sym (c .if2 .left) ∙ c .before .judged .ensures)

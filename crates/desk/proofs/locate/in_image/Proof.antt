@@ -1,13 +1,20 @@
-use Prim.Native.Nat.{_+_}
-use mathlib.Core.Path.{_≡_, _∙_, sym}
+use Prim.Native.Nat.{ℕ, _+_}
+use mathlib.Core.Path.{_≡_, _∙_, sym, ap}
 use borrow.Author.Needs.{needs}
 use Rattle.desk.proofs.Spans.{image-wrong, image-right}
 use Rattle.desk.proofs.locate.in_image.Statement.{statement}
 use Rattle.desk.proofs.locate.in_image.Tie as tie
 
+-- from behind the checksum's test back to the image's bounds, and to the entry
+abbrev bounded : tie.After-struct-known → tie.After-wide
+bounded c = c .before .before .before
+
+abbrev start : tie.After-wide → tie.Start
+start c = c .before .before .before
+
 bounds : (c : tie.After-wide)
-    → c .before .image-at .result + c .wide .result ≡ c .before .image-at .result + c .before .before .before .args .settings .size
-bounds c = rw (c .wide .ensures .0)
+    → c .before .image-at .result + c .wide .result ≡ c .before .image-at .result + start c .args .settings .size
+bounds c = ap (λ (n : ℕ). c .before .image-at .result + n) (c .wide .ensures .0)
 
 image-at-requires : tie.Need-image-at-requires
 image-at-requires c κs = search needs
@@ -35,8 +42,8 @@ refuse-requires c κs = search needs
 
 returns : tie.Need-returns
 returns c =
-    let w = c .before .before .before .before .before in
-    let a = w .before .before .before .args in
+    let w = bounded (c .before .before) in
+    let a = start w .args in
     let at = w .before .image-at in
     c .refuse .ensures
     ∙ sym (image-wrong (a .settings) (a .side .now) (a .x) _ _ (at .result) _ (at .ensures .0) (bounds w)
@@ -53,8 +60,8 @@ wide-requires-3 c κs = search needs
 
 returns-2 : tie.Need-returns-2
 returns-2 c =
-    let w = c .before .before .before .before .before .before in
-    let a = w .before .before .before .args in
+    let w = bounded (c .before .before .before) in
+    let a = start w .args in
     let at = w .before .image-at in
     rw (c .before .wide2 .ensures .0, c .wide3 .ensures .0)
     (sym (image-right (a .settings) (a .side .now) (a .x) _ _ (at .result) _ (at .ensures .0) (bounds w)

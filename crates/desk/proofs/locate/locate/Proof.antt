@@ -40,7 +40,7 @@ rows c =
 -- the entry was sought
 abbrev Found : tie.After-find → Type 0
 Found c =
-    let a = c .before .before .before .before .before .before .before .before .args in
+    let a = start (c .before .before .before) .args in
     Sought (a .held .now) (a .side .now) (a .base .now) (a .page .0) (a .offset) (a .length) (c .before .before .header-of .result) (c .before .wide .result)
     (c .find .result)
 
@@ -66,15 +66,15 @@ wide-requires c κs = search needs
 find-requires : tie.Need-find-requires
 find-requires c κs = (rows c, search needs)
 
-entry-at-requires : tie.Need-entry-at-requires
-entry-at-requires c κs =
+entry-requires : tie.Need-entry-requires
+entry-requires c κs =
     omega (arith, rows (c .before .before), row-in indexRow (c .before .find .result) (c .before .before .wide .result) (c .if2 .taken))
 
 in-image-requires : tie.Need-in-image-requires
-in-image-requires c κs = image-fits (found (c .before .before)) (c .before .if2 .taken) _ (c .entry-at .ensures)
+in-image-requires c κs = image-fits (found (c .before .before)) (c .before .if2 .taken) _ (c .entry .ensures)
 
 returns-2 : tie.Need-returns-2
-returns-2 c = locate-image (found (c .before .before .before)) (c .before .before .if2 .taken) _ (c .before .entry-at .ensures) _ (c .in-image .ensures)
+returns-2 c = locate-image (found (c .before .before .before)) (c .before .before .if2 .taken) _ (c .before .entry .ensures) _ (c .in-image .ensures)
 
 in-base-requires : tie.Need-in-base-requires
 in-base-requires c κs = search needs
@@ -92,7 +92,7 @@ locate-spec =
     header-of-requires
     wide-requires
     find-requires
-    entry-at-requires
+    entry-requires
     in-image-requires
     returns-2
     in-base-requires

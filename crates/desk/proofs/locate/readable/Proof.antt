@@ -8,7 +8,10 @@ use Rattle.desk.proofs.Spans.{follow-refused, span-decides}
 use Rattle.desk.proofs.locate.readable.Statement.{statement}
 use Rattle.desk.proofs.locate.readable.Tie as tie
 
-good : (c : tie.Else1) → passes (followTests false (c .before .before .before .before .before .args .held .now) (c .before .before .before .before .before .args .side .now)) ≡ true
+abbrev start : tie.Else1 → tie.Start
+start c = c .before .before .before .before .before
+
+good : (c : tie.Else1) → passes (followTests false (start c .args .held .now) (start c .args .side .now)) ≡ true
 good c = follows false _ _ (sym (c .if1 .left) ∙ c .before .follow .ensures)
 
 follow-requires : tie.Need-follow-requires
@@ -24,7 +27,9 @@ spanned-requires : tie.Need-spanned-requires
 spanned-requires c κs = search needs
 
 returns-2 : tie.Need-returns-2
-returns-2 c = c .spanned .ensures ∙ span-decides (c .before .before .before .before .before .before .before .args .held .now) (c .before .before .before .before .before .before .before .args .side .now) _ _ _ _ (good (c .before .before)) _ (c .before .header-of .ensures)
+returns-2 c =
+    let a = start (c .before .before) .args in
+    c .spanned .ensures ∙ span-decides (a .held .now) (a .side .now) _ _ _ _ (good (c .before .before)) _ (c .before .header-of .ensures)
 
 pub readable-spec : {M : Type 1} → statement M
 readable-spec =

@@ -1,16 +1,39 @@
-use Prim.Native.Nat.{_*_, _≤_}
+use Prim.Native.Nat.{ℕ, _*_, _≤_}
+use mathlib.Core.List.{[], _∷_}
+use mathlib.Core.Path.{_≡_}
 use native.Mathlib.Omega.{arith}
 use lib.ListN.{length}
 use borrow.Author.Needs.{needs}
-use Rattle.desk.proofs.Spans.{product, base-short, page-past, span-empty, span-past, span-inside}
+use Rattle.units.specs.Refusals as Refusals
+use Rattle.units.specs.Sizes.{insidePage}
+use Rattle.units.specs.Spans.{span-empty, span-past, span-inside}
+use Rattle.units.specs.Tests.{verdict}
+use Rattle.desk.specs.Read.{spanTests}
+use Rattle.desk.proofs.Spans.{product, base-short, page-past, at-span}
 use Rattle.desk.proofs.locate.spanned.Statement.{statement}
 use Rattle.desk.proofs.locate.spanned.Tie as tie
 
 abbrev start : tie.Else1 → tie.Start
 start c = c .before .before .before .before
 
+-- behind the test of the page, and from there to behind that of the base
+abbrev paged : tie.After-wide4 → tie.Else2
+paged c = c .before .before .before
+
+abbrev long : tie.Else2 → tie.Else1
+long c = c .before .before .before
+
 based : (c : tie.Else1) → start c .args .held .settings .size * start c .args .held .end ≤ length (start c .args .base .now)
 based c = rw (c .before .before .wide .ensures .0, c .before .wide2 .ensures .0) at (c .if1 .left)
+
+-- the verdict is that on the span
+abbrev verdict-on : tie.Start → ℕ
+verdict-on c = verdict (spanTests (c .args .held) (c .args .base .now) (c .args .page .0) (c .args .offset) (c .args .length))
+
+last : (c : tie.Else2)
+    → verdict-on (start (long c))
+    ≡ verdict ((Refusals.span, insidePage (start (long c) .args .held .settings .size) (start (long c) .args .offset) (start (long c) .args .length)) ∷ [])
+last c = at-span _ _ _ _ _ (based (long c)) (c .if2 .left)
 
 wide-requires : tie.Need-wide-requires
 wide-requires c κs = search needs
@@ -28,7 +51,7 @@ returns-2 : tie.Need-returns-2
 returns-2 c = page-past _ _ _ _ _ (based (c .before .before .before)) (c .if2 .taken)
 
 returns-3 : tie.Need-returns-3
-returns-3 c = span-empty _ _ _ _ _ (based (c .before .before .before .before)) (c .before .if2 .left) (c .if3 .taken)
+returns-3 c = span-empty _ _ _ _ (last (c .before)) (c .if3 .taken)
 
 wide-requires-3 : tie.Need-wide-requires-3
 wide-requires-3 c κs = search needs
@@ -41,15 +64,15 @@ add-if4 c = search needs
 
 returns-4 : tie.Need-returns-4
 returns-4 c =
-    let b = c .before .before .before .before .before .before .before in
-    span-past _ _ _ _ _ (based b) (c .before .before .before .before .if2 .left) (c .before .before .before .if3 .left)
-    (rw (b .before .before .wide .ensures .0, c .before .before .wide3 .ensures .0, c .before .wide4 .ensures .0) at (c .if4 .taken))
+    let p = paged (c .before) in
+    span-past _ _ _ _ (last p) (c .before .before .before .if3 .left)
+    (omega (arith, long p .before .before .wide .ensures .0, c .before .before .wide3 .ensures .0, c .before .wide4 .ensures .0))
 
 returns-5 : tie.Need-returns-5
 returns-5 c =
-    let b = c .before .before .before .before .before .before .before in
-    span-inside _ _ _ _ _ (based b) (c .before .before .before .before .if2 .left) (c .before .before .before .if3 .left)
-    (rw (b .before .before .wide .ensures .0, c .before .before .wide3 .ensures .0, c .before .wide4 .ensures .0) at (c .if4 .left))
+    let p = paged (c .before) in
+    span-inside _ _ _ _ (last p) (c .before .before .before .if3 .left)
+    (omega (arith, long p .before .before .wide .ensures .0, c .before .before .wide3 .ensures .0, c .before .wide4 .ensures .0))
 
 pub spanned-spec : {M : Type 1} → statement M
 spanned-spec =

@@ -19,12 +19,18 @@ Inv-loop side held marks₀ at w n i₀ marks i =
 abbrev μ-loop : tie.MeasureT-loop
 μ-loop side held marks₀ at w n i₀ marks i = n - i
 
--- from the loop's head back to the entry, and to where the entries were counted
-abbrev start : tie.At-loop Inv-loop μ-loop → tie.Start Inv-loop μ-loop
-start c = c .before .before .before .before .before .before .before .before .before
+-- from the loop's head back: the marks cleared, the entries counted, the entry; and from where a row was read to the loop
+abbrev cleared : tie.At-loop Inv-loop μ-loop → tie.After-clear Inv-loop μ-loop
+cleared c = c .before .before .before
 
 abbrev count : tie.At-loop Inv-loop μ-loop → tie.After-wide Inv-loop μ-loop
-count c = c .before .before .before .before .before .before
+count c = cleared c .before .before .before
+
+abbrev start : tie.At-loop Inv-loop μ-loop → tie.Start Inv-loop μ-loop
+start c = count c .before .before .before
+
+abbrev turn : tie.After-struct-known Inv-loop μ-loop → tie.At-loop Inv-loop μ-loop
+turn c = c .before .before .before
 
 abbrev entry : tie.In-loop Inv-loop μ-loop → tie.Start Inv-loop μ-loop
 entry c = start (c .before)
@@ -46,7 +52,9 @@ wide-requires-2 : tie.Need-wide-requires-2 Inv-loop μ-loop
 wide-requires-2 c κs = search needs
 
 clear-requires : tie.Need-clear-requires Inv-loop μ-loop
-clear-requires c κs = omega (arith, c .wide2 .ensures .0, c .before .before .before .before .before .pre .room)
+clear-requires c κs =
+    let n = c .before .before in
+    omega (arith, c .wide2 .ensures .0, n .before .before .before .pre .room)
 
 loop-holds : tie.Need-loop-holds Inv-loop μ-loop
 loop-holds c = (search needs, refl, refl)
@@ -62,10 +70,10 @@ wide-requires-3 c κs = search needs
 
 slice-write-marks : tie.Need-slice-write-marks Inv-loop μ-loop
 slice-write-marks c =
-    let h = c .before .before .before .before .before .before in
+    let h = turn (c .before .before .before) in
     let l = h .loop in
     let n = count h .wide in
-    let pages = mark-pages _ _ _ (start h .pre) _ (n .ensures .0) _ (sym (h .before .before .before .clear .kept .0)) in
+    let pages = mark-pages _ _ _ (start h .pre) _ (n .ensures .0) _ (sym (cleared h .clear .kept .0)) in
     omega (
       arith,
       page-in headerLength indexRow (n .result) (start h .args .side .now) (l .i) (omega arith) pages,
@@ -82,9 +90,10 @@ loop-less c = search needs
 
 loop-again : tie.Need-loop-again Inv-loop μ-loop
 loop-again c =
-    let l = c .before .before .before .before .loop in
-    let a = start (c .before .before .before .before) .args in
-    let n = count (c .before .before .before .before) .wide .result in
+    let t = turn (c .before) in
+    let l = t .loop in
+    let a = start t .args in
+    let n = count t .wide .result in
     let k = c .before .before .number .ensures .0 in
     let h : l .i < n = omega arith in
     let next = raised (a .held) (drop (l .i + 1) (entriesAt headerLength indexRow n (a .side .now))) in
@@ -106,7 +115,7 @@ loop-again c =
     (c .if1 .came)
 
 same-length : tie.Need-same-length Inv-loop μ-loop
-same-length c = c .before .loop .inv .1 ∙ c .before .before .before .before .clear .kept .0
+same-length c = c .before .loop .inv .1 ∙ cleared (c .before) .clear .kept .0
 
 returns : tie.Need-returns Inv-loop μ-loop
 returns c =
@@ -116,8 +125,8 @@ returns c =
     let n = count h .wide in
     sym (raise-end headerLength indexRow (n .result) (a .side .now) (l .i) (a .held) (l .marks) (omega arith))
     ∙ sym (l .inv .2)
-    ∙ ap (raised (a .held) (entriesAt headerLength indexRow (n .result) (a .side .now))) (h .before .before .before .clear .ensures)
-    ∙ mark-made (a .header) (a .side .now) (a .marks .now) (start h .pre) (n .result) (n .ensures .0) (a .held) _ (h .before .before .before .before .wide2 .ensures .0)
+    ∙ ap (raised (a .held) (entriesAt headerLength indexRow (n .result) (a .side .now))) (cleared h .clear .ensures)
+    ∙ mark-made (a .header) (a .side .now) (a .marks .now) (start h .pre) (n .result) (n .ensures .0) (a .held) _ (cleared h .before .wide2 .ensures .0)
 
 pub mark-spec : {M : Type 1} → statement M
 mark-spec =

@@ -5,6 +5,13 @@ use borrow.Author.Needs.{needs}
 use Rattle.listing.proofs.input.keep.Statement.{statement}
 use Rattle.listing.proofs.input.keep.Tie as tie
 
+-- from the end back: how much there is room for, and the entry
+abbrev limited : tie.After-slice-known2 → tie.After-least
+limited c = c .before .before .before
+
+abbrev start : tie.After-least → tie.Start
+start c = c .before .before .before .before .before
+
 add-sum : tie.Need-add-sum
 add-sum c = search needs
 
@@ -25,8 +32,8 @@ same-length c = search needs
 
 returns-2 : tie.Need-returns-2
 returns-2 c =
-    let a = c .before .before .before .before .before .before .before .before .args in
-    let l = c .before .before .before .least in (
+    let a = start (limited c) .args in
+    let l = limited c .least in (
       c .before .before .copy .ensures
           ∙ rw (part-zero (a .next .now)) (lay-room (a .kept .now) (a .total) (a .next .now) (l .result) (l .ensures)),
       search needs,

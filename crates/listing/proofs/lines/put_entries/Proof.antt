@@ -32,6 +32,13 @@ Inv-loop out₀ at s n end₀ i₀ out end i =
 abbrev μ-loop : tie.MeasureT-loop
 μ-loop out₀ at s n end₀ i₀ out end i = n - i
 
+-- from behind a line back to the turn of the loop, and from there to the entry
+abbrev turn : tie.After-slice-known2 Inv-loop μ-loop → tie.At-loop Inv-loop μ-loop
+turn c = c .before .before .before .before .before
+
+abbrev start : tie.At-loop Inv-loop μ-loop → tie.Start Inv-loop μ-loop
+start c = c .before .before .before
+
 loop-holds : tie.Need-loop-holds Inv-loop μ-loop
 loop-holds c = (search needs, search needs, search needs, λ zs e w. w)
 
@@ -46,8 +53,9 @@ loop-less c = search needs
 
 loop-again : tie.Need-loop-again Inv-loop μ-loop
 loop-again c =
-    let a = c .before .before .before .before .before .before .before .before .args in
-    let l = c .before .before .before .before .before .loop in (
+    let t = turn c in
+    let a = start t .args in
+    let l = t .loop in (
       search needs,
       search needs,
       search needs,
@@ -59,7 +67,7 @@ same-length c = search needs
 
 returns : tie.Need-returns Inv-loop μ-loop
 returns c =
-    let a = c .before .before .before .before .args in
+    let a = start (c .before) .args in
     let l = c .before .loop in
     (l .inv .3 (l .out) (l .end) (written-as (lines-end (a .n) (l .i) (a .s .now) (search needs)) (written-none (l .out) (l .end))), search needs)
 

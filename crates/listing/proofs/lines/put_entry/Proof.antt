@@ -13,6 +13,19 @@ use borrow.Author.Needs.{needs}
 use Rattle.listing.proofs.lines.put_entry.Statement.{statement}
 use Rattle.listing.proofs.lines.put_entry.Tie as tie
 
+-- from the end back: the change, the place and the page of the line, and the entry
+abbrev changed : tie.After-slice-known5 → tie.After-put-after2
+changed c = c .before .before .before .before .before .before
+
+abbrev placed : tie.After-put-after2 → tie.After-put-after
+placed c = c .before .before .before .before .before .before
+
+abbrev paged : tie.After-put-after → tie.After-put-decimal
+paged c = c .before .before .before .before .before .before
+
+abbrev start : tie.After-put-decimal → tie.Start
+start c = c .before .before .before .before .before
+
 number-requires : tie.Need-number-requires
 number-requires c κs = search needs
 
@@ -52,10 +65,10 @@ line x p q t a b c = rw (a, b, c)
 returns : tie.Need-returns
 unfolding ascii
 returns c =
-    let d = c .before .before .before .before .before .before in
-    let b = d .before .before .before .before .before .before in
-    let a = b .before .before .before .before .before .before in
-    let r = row headerLength indexRow (a .before .before .before .before .before .args .i) (a .before .before .before .before .before .args .s .now) in (
+    let d = changed c in
+    let b = placed d in
+    let a = paged b in
+    let r = row headerLength indexRow (start a .args .i) (start a .args .s .now) in (
       written-as
           (line (indexEntryOf r) _ _ _ (a .before .number .ensures .0 ∙ sym (page-column r)) (b .before .number2 .ensures .0 ∙ sym (place-column r)) (d .before .number3 .ensures .0 ∙ sym (changed-column r)))
           (written-next (a .put-decimal .ensures .0) (written-next (b .put-after .ensures .0) (written-next (d .put-after2 .ensures .0) (c .before .before .put-byte .ensures)))),

@@ -4,6 +4,16 @@ use borrow.Author.Needs.{needs}
 use Rattle.listing.proofs.lines.put_head.Statement.{statement}
 use Rattle.listing.proofs.lines.put_head.Tie as tie
 
+-- from the end back: the third piece of the line, the second and the first
+abbrev third : tie.After-slice-known5 → tie.After-put-after3
+third c = c .before .before .before .before .before .before
+
+abbrev second : tie.After-put-after3 → tie.After-put-after2
+second c = c .before .before .before .before .before
+
+abbrev first : tie.After-put-after2 → tie.After-put-after
+first c = c .before .before .before .before .before
+
 slice-aggregate-put-after : tie.Need-slice-aggregate-put-after
 slice-aggregate-put-after c = search needs
 
@@ -31,9 +41,9 @@ same-length c = search needs
 returns : tie.Need-returns
 unfolding headLine ascii
 returns c =
-    let d = c .before .before .before .before .before .before in
-    let b = d .before .before .before .before .before in
-    let a = b .before .before .before .before .before in
+    let d = third c in
+    let b = second d in
+    let a = first b in
     (written-next (a .put-after .ensures .0) (written-next (b .put-after2 .ensures .0) (written-next (d .put-after3 .ensures .0) (c .before .before .put-byte .ensures))), search needs)
 
 pub put-head-spec : {M : Type 1} → statement M

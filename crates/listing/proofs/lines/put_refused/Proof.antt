@@ -4,6 +4,10 @@ use borrow.Author.Needs.{needs}
 use Rattle.listing.proofs.lines.put_refused.Statement.{statement}
 use Rattle.listing.proofs.lines.put_refused.Tie as tie
 
+-- from the end back: the words and the number before the line's end
+abbrev worded : tie.After-slice-known3 → tie.After-put-after
+worded c = c .before .before .before .before .before .before
+
 slice-aggregate-put-after : tie.Need-slice-aggregate-put-after
 slice-aggregate-put-after c = search needs
 
@@ -18,8 +22,7 @@ same-length c = search needs
 
 returns : tie.Need-returns
 unfolding refusedLine ascii
-returns c =
-    (written-next (c .before .before .before .before .before .before .put-after .ensures .0) (c .before .before .put-byte .ensures), search needs)
+returns c = (written-next (worded c .put-after .ensures .0) (c .before .before .put-byte .ensures), search needs)
 
 pub put-refused-spec : {M : Type 1} → statement M
 put-refused-spec =

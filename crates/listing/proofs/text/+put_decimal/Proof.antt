@@ -26,6 +26,13 @@ put-decimal-below t =
 abbrev calls : ℕ → put-decimal-lts.Claims
 calls t = (put-byte-reads.Asked, put-byte-reads.Learnt, put-decimal-below t, put-decimal.Post)
 
+-- from the end back: where the digits before the last stand; and the entry
+abbrev Done : ℕ → Type 0
+Done t = put-decimal-lts.After-put-decimal (calls t) (put-decimal-at t) put-decimal.Post
+
+abbrev entry : (t : ℕ) → Done t → put-decimal-lts.Start (calls t) (put-decimal-at t) put-decimal.Post
+entry t c = c .before .before .before .before
+
 cast-put-byte : (t : ℕ) → put-decimal-lts.Need-cast-put-byte (calls t) (put-decimal-at t) put-decimal.Post
 cast-put-byte t c = search needs
 
@@ -40,8 +47,9 @@ same-length t c = search needs
 
 returns : (t : ℕ) → put-decimal-lts.Need-returns (calls t) (put-decimal-at t) put-decimal.Post
 returns t c =
-    let a = c .before .before .before .before .before .before .args in
-    (rw (decimal-one (a .v) (c .before .before .before .before .if1 .taken)) (c .before .before .put-byte .ensures), search needs)
+    let w = c .before .before in
+    let t = w .before .before in
+    (rw (decimal-one (t .before .before .args .v) (t .if1 .taken)) (w .put-byte .ensures), search needs)
 
 put-decimal-requires : (t : ℕ) → put-decimal-lts.Need-put-decimal-requires (calls t) (put-decimal-at t) put-decimal.Post
 put-decimal-requires t c κs = search needs
@@ -53,10 +61,9 @@ add-put-byte-2 : (t : ℕ) → put-decimal-lts.Need-add-put-byte-2 (calls t) (pu
 add-put-byte-2 t c = search needs
 
 -- the number has at most ten digits, so those before the last are at most nine
-shorter : (t : ℕ) (c : put-decimal-lts.After-put-decimal (calls t) (put-decimal-at t) put-decimal.Post)
-    → c .put-decimal .result < c .before .before .before .before .args .at + 10
+shorter : (t : ℕ) (c : Done t) → c .put-decimal .result < entry t c .args .at + 10
 shorter t c =
-    let s = c .before .before .before .before in
+    let s = entry t c in
     omega (
       arith,
       c .put-decimal .ensures .0 .ended,
@@ -72,9 +79,10 @@ same-length-2 t c = search needs
 
 returns-2 : (t : ℕ) → put-decimal-lts.Need-returns-2 (calls t) (put-decimal-at t) put-decimal.Post
 returns-2 t c =
-    let d = c .before .before .before .before .before .before in
-    let b = c .before .before .put-byte2 .ensures in (
-      rw (decimal-more (d .before .before .before .before .args .v) (d .before .before .if1 .left)) (written-next (d .put-decimal .ensures .0) b),
+    let w = c .before .before in
+    let d = w .before .before .before .before in
+    let b = w .put-byte2 .ensures in (
+      rw (decimal-more (entry t d .args .v) (d .before .before .if1 .left)) (written-next (d .put-decimal .ensures .0) b),
       omega (arith, shorter t d, b .ended),
     )
 

@@ -6,6 +6,13 @@ use Rattle.octets.specs.Part.{lay, part-zero}
 use Rattle.listing.proofs.text.put.Statement.{statement}
 use Rattle.listing.proofs.text.put.Tie as tie
 
+-- from the end back: the copy, and the entry
+abbrev copied : tie.After-slice-known2 → tie.After-copy
+copied c = c .before .before
+
+abbrev start : tie.After-slice-known2 → tie.Start
+start c = copied c .before .before .before .before
+
 copy-requires : tie.Need-copy-requires
 copy-requires c κs = search needs
 
@@ -17,10 +24,10 @@ same-length c = search needs
 
 returns : tie.Need-returns
 returns c =
-    let a = c .before .before .before .before .before .before .args in
+    let a = start c .args in
     let w = a .word .now in
     record {
-      laid = c .before .before .copy .ensures ∙ ap (lay (a .out .now) (a .at)) (part-zero w (length w) ∙ take-length w);
+      laid = copied c .copy .ensures ∙ ap (lay (a .out .now) (a .at)) (part-zero w (length w) ∙ take-length w);
       ended = refl;
     }
 

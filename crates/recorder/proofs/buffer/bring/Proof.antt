@@ -1,8 +1,17 @@
+use Prim.Native.Nat.{ℕ, _*_}
+use mathlib.Core.Path.{_∙_, ap}
+use native.Mathlib.Omega.{arith}
+use Rattle.octets.specs.Part.{part, lay}
 use borrow.Author.Tests.{not-true, not-false}
+use Rattle.octets.specs.Rows.{row}
 use Rattle.recorder.specs.Using.{broughtTo}
 use borrow.Author.Needs.{needs}
 use Rattle.recorder.proofs.buffer.bring.Statement.{statement}
 use Rattle.recorder.proofs.buffer.bring.Tie as tie
+
+-- a miss, from where the bytes were copied
+abbrev missed : tie.After-slice-known2 → tie.After-wide
+missed c = c .before .before .before .before
 
 wide-requires : tie.Need-wide-requires
 wide-requires c κs = search needs
@@ -11,17 +20,22 @@ mul-copy : tie.Need-mul-copy
 mul-copy c = rw (c .wide .ensures .0) (search needs)
 
 mul-copy-2 : tie.Need-mul-copy-2
-mul-copy-2 c = search needs
+mul-copy-2 c = rw (c .before .wide .ensures .0) (search needs)
 
 copy-requires : tie.Need-copy-requires
-copy-requires c κs = rw (c .before .wide .ensures .0) (c .before .before .before .before .before .pre)
+copy-requires c κs = rw (c .before .wide .ensures .0) (search needs)
 
 same-length : tie.Need-same-length
 same-length c = search needs
 
 returns : tie.Need-returns
-unfolding broughtTo
-returns c = rw (not-true (c .before .before .before .before .before .before .before .before .args .hit) (c .before .before .before .before .before .if1 .taken)) (rw (c .before .before .before .before .wide .ensures .0) at (c .before .before .copy .ensures))
+unfolding broughtTo row
+returns c =
+    let m = missed c in
+    let a = m .before .before .before .before .args in
+    c .before .before .copy .ensures
+    ∙ rw (not-true (a .hit) (m .before .if1 .taken), m .wide .ensures .0)
+    (ap (λ (at : ℕ). lay (a .buffer .now) (a .slot * a .size) (part (a .base .now) at (a .size))) (omega arith))
 
 returns-2 : tie.Need-returns-2
 unfolding broughtTo

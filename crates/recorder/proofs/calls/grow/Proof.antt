@@ -1,49 +1,49 @@
-use Prim.Native.Nat.{_≤_, _<_, _+_, _*_}
-use mathlib.Core.Path.{_≡_}
-use mathlib.Core.Option.{none}
 use native.Mathlib.Omega.{arith}
-use lib.ListN.{length}
 use borrow.Author.Tests.{not-true, not-false}
-use Rattle.lists.specs.Maps.{length-mapped}
-use Rattle.slots.specs.Sits.{Whole}
 use Rattle.recorder.specs.Outcome.{lent}
-use Rattle.recorder.specs.World.{World, pageSize, slotFor}
-use Rattle.recorder.proofs.Accepted.{Growth, growth, growth-small, growth-end, growth-kinds, growth-base, growth-asks, slot-sixteen, slot-small, slot-long}
-use Rattle.recorder.proofs.Bringing.{end-absent}
+use Rattle.recorder.specs.Using.{Chosen}
+use Rattle.recorder.specs.World.{World}
+use Rattle.recorder.proofs.Accepted.{Slotted, slotted, Growth, growth, growth-end, growth-asks, growth-kinds, growth-base}
+use Rattle.recorder.proofs.Bringing.{chosen-alone, chosen-takes}
 use Rattle.recorder.proofs.Replied.{grow-refused, grow-raw, grow-nowhere, grow-seated}
 use borrow.Author.Needs.{needs}
 use Rattle.recorder.proofs.calls.grow.Statement.{statement}
 use Rattle.recorder.proofs.calls.grow.Tie as tie
 
+-- The way through the code, back from place to place. The tests were made, and have passed; the page is to be metadata; a slot was
+-- looked for. At the end of each way: the page was zeroed in the base, in its slot.
+
+abbrev given : tie.After-grows → tie.Start
+given c = c .before .before .before .before .before .before .before .before .before
+
+abbrev start : tie.Else1 → tie.Start
+start c = given (c .before)
+
+abbrev metadata : tie.After-struct-known → tie.Else2
+metadata c = c .before .before
+
+abbrev begun : tie.After-struct-known → tie.Else1
+begun c = metadata c .before .before
+
+abbrev base-zeroed : tie.After-slice-known4 → tie.After-clear-page
+base-zeroed c = c .before .before
+
+abbrev slot-zeroed : tie.After-slice-known5 → tie.After-clear-page2
+slot-zeroed c = c .before .before
+
+-- What is known there: the world, that its tests have passed, the answer for page e, its slot.
+
 abbrev world : tie.Start → World
 world s = lent (s .args .state) (s .args .ledger .now) (s .args .base .now) (s .args .side .now) (s .args .buffer .now) (s .args .kinds .now)
 
-whole : (s : tie.Start) → Whole (s .args .state .slots)
-whole s = record { pages = search (needs, length-mapped); changed = search needs; order = search (needs, length-mapped, s .good .0 .1 .1 .1 .1 .1 .1 .0 .1 .1 .1 .1 .0) }
+accepted : (c : tie.Else1) → Growth (world (start c)) (start c .args .kind)
+accepted c = growth (world (start c)) _ (c .before .grows .result) (c .before .grows .ensures) (c .if1 .left)
 
--- the tests have passed
-accepted : (c : tie.Else1) → Growth (world (c .before .before .before .before .before .before .before .before .before .before)) (c .before .before .before .before .before .before .before .before .before .before .args .kind)
-accepted c = growth (world (c .before .before .before .before .before .before .before .before .before .before)) _ (c .before .grows .result) (c .before .grows .ensures) (c .if1 .left)
+answer : (c : tie.After-struct-known) → Chosen (world (start (begun c))) (start (begun c) .args .state .end) (c .before .slot-for .result)
+answer c = chosen-alone (world (start (begun c))) _ _ (c .before .slot-for .ensures)
 
--- the page that is added is in no slot
-absent : (c : tie.Else1) → slotFor (world (c .before .before .before .before .before .before .before .before .before .before)) (c .before .before .before .before .before .before .before .before .before .before .args .state .end) ≡ none
-absent c = end-absent (world (c .before .before .before .before .before .before .before .before .before .before)) (accepted c .stands .ruled) (whole (c .before .before .before .before .before .before .before .before .before .before))
-
--- the page has a slot
-slot-low : (c : tie.Else3) → c .before .before .slot-for .result .slot < 16
-slot-low c =
-    let b = c .before .before .slot-for in
-    slot-sixteen (world (c .before .before .before .before .before .before .before .before .before .before .before .before .before .before .before .before)) (accepted (c .before .before .before .before .before .before) .stands) (whole (c .before .before .before .before .before .before .before .before .before .before .before .before .before .before .before .before)) _ (omega arith) (b .result) (b .ensures) (not-false _ (c .if3 .left))
-
-slot-fits : (c : tie.Else3) → c .before .before .slot-for .result .slot * pageSize (world (c .before .before .before .before .before .before .before .before .before .before .before .before .before .before .before .before)) ≤ 268431360
-slot-fits c =
-    let b = c .before .before .slot-for in
-    slot-small (world (c .before .before .before .before .before .before .before .before .before .before .before .before .before .before .before .before)) (accepted (c .before .before .before .before .before .before) .stands) (whole (c .before .before .before .before .before .before .before .before .before .before .before .before .before .before .before .before)) _ (omega arith) (b .result) (b .ensures) (not-false _ (c .if3 .left))
-
-in-buffer : (c : tie.Else3) → c .before .before .slot-for .result .slot * pageSize (world (c .before .before .before .before .before .before .before .before .before .before .before .before .before .before .before .before)) + pageSize (world (c .before .before .before .before .before .before .before .before .before .before .before .before .before .before .before .before)) ≤ length (c .before .before .before .before .before .before .before .before .before .before .before .before .before .before .before .before .args .buffer .now)
-in-buffer c =
-    let b = c .before .before .slot-for in
-    slot-long (world (c .before .before .before .before .before .before .before .before .before .before .before .before .before .before .before .before)) (accepted (c .before .before .before .before .before .before) .stands) (whole (c .before .before .before .before .before .before .before .before .before .before .before .before .before .before .before .before)) _ (omega arith) (b .result) (b .ensures) (not-false _ (c .if3 .left))
+slot : (c : tie.Else3) → Slotted (world (start (begun (c .before)))) (start (begun (c .before)) .args .state .end) (c .before .before .slot-for .result)
+slot c = slotted _ (accepted (begun (c .before)) .stands) _ _ (answer (c .before)) (not-false _ (c .if3 .left))
 
 grows-requires : tie.Need-grows-requires
 grows-requires c κs = search needs
@@ -62,26 +62,20 @@ same-length-3 c = search needs
 
 returns : tie.Need-returns
 returns c =
-    rw (c .refused .ensures)
-    (grow-refused (world (c .before .before .before .before .before .before .before .before .before .before .before)) _ (c .before .before .grows .result) (c .before .before .grows .ensures) (c .before .if1 .taken))
+    let t = c .before in
+    rw (c .refused .ensures) (grow-refused (world (given (t .before))) _ (t .before .grows .result) (t .before .grows .ensures) (t .if1 .taken))
 
 wide-requires : tie.Need-wide-requires
 wide-requires c κs = search needs
 
-wide-requires-2 : tie.Need-wide-requires-2
-wide-requires-2 c κs = search needs
-
-mul-clear : tie.Need-mul-clear
-mul-clear c = rw (c .before .before .wide2 .ensures .0, c .before .before .before .wide .ensures .0) (omega (arith, growth-small _ _ (accepted (c .before .before .before .before))))
-
-clear-requires : tie.Need-clear-requires
-clear-requires c κs = rw (c .before .before .wide2 .ensures .0, c .before .before .before .wide .ensures .0) (growth-base _ _ (accepted (c .before .before .before .before)))
+clear-page-requires : tie.Need-clear-page-requires
+clear-page-requires c κs = let k = c .before .before in rw (k .wide .ensures .0) (growth-base _ _ (accepted (k .before)))
 
 slice-write-kinds : tie.Need-slice-write-kinds
-slice-write-kinds c = rw (c .before .before .before .before .before .wide2 .ensures .0) (growth-kinds _ _ (accepted (c .before .before .before .before .before .before .before)))
+slice-write-kinds c = let k = base-zeroed c .before .before .before in rw (k .wide .ensures .0) (growth-kinds _ _ (accepted (k .before)))
 
 grown-requires : tie.Need-grown-requires
-grown-requires c κs = omega (arith, growth-end _ _ (accepted (c .before .before .before .before .before .before .before)))
+grown-requires c κs = omega (arith, growth-end _ _ (accepted (base-zeroed c .before .before .before .before)))
 
 accepted-requires : tie.Need-accepted-requires
 accepted-requires c κs = search needs
@@ -97,15 +91,15 @@ same-length-6 c = search needs
 
 returns-2 : tie.Need-returns-2
 returns-2 c =
-    let t = c .before .before .before .before .before .before in
-    let a = t .before .before .before in
-    let s = a .before .before .before .before .before .before .before .before .before .before in
-    rw (c .accepted .ensures, t .before .wide2 .ensures .0)
-    (grow-raw (world s) (s .args .kind) (accepted a) (c .before .grown .result) (c .before .grown .ensures) (t .if2 .taken)
-    (c .before .before .before .before .clear .last .0) (rw (t .before .wide2 .ensures .0, t .before .before .wide .ensures .0) at (c .before .before .before .before .clear .ensures)))
+    let z = base-zeroed (c .before .before) in
+    let t = z .before .before in
+    let k = t .before in
+    rw (c .accepted .ensures)
+    (grow-raw (world (start (k .before))) _ (accepted (k .before)) (k .wide .result) (k .wide .ensures .0) (t .if2 .taken)
+    (c .before .grown .result) (c .before .grown .ensures) (z .clear-page .last .0) (z .clear-page .ensures))
 
 slot-for-requires : tie.Need-slot-for-requires
-slot-for-requires c κs = growth-asks _ _ (accepted (c .before .before .before))
+slot-for-requires c κs = growth-asks _ _ (accepted (c .before .before))
 
 refused-requires-2 : tie.Need-refused-requires-2
 refused-requires-2 c κs = search needs
@@ -121,27 +115,25 @@ same-length-9 c = search needs
 
 returns-3 : tie.Need-returns-3
 returns-3 c =
-    let b = c .before .before .before .slot-for in
+    let t = c .before in
+    let e = metadata (t .before) in
+    let k = e .before in
     rw (c .refused2 .ensures)
-    (grow-nowhere (world (c .before .before .before .before .before .before .before .before .before .before .before .before .before .before .before .before .before)) _ (accepted (c .before .before .before .before .before .before .before)) (c .before .before .before .before .if2 .left) (absent (c .before .before .before .before .before .before .before)) (b .result) (b .ensures) (not-true _ (c .before .if3 .taken)))
+    (grow-nowhere (world (start (k .before))) _ (accepted (k .before)) (k .wide .result) (k .wide .ensures .0) (e .if2 .left)
+    (t .before .before .slot-for .result) (answer (t .before)) (not-true _ (t .if3 .taken)))
 
-mul-clear-2 : tie.Need-mul-clear-2
-mul-clear-2 c = rw (c .before .before .before .before .before .before .before .wide .ensures .0) (omega (arith, slot-fits (c .before .before)))
-
-clear-requires-2 : tie.Need-clear-requires-2
-clear-requires-2 c κs = rw (c .before .before .before .before .before .before .before .wide .ensures .0) (in-buffer (c .before .before))
+clear-page-requires-2 : tie.Need-clear-page-requires-2
+clear-page-requires-2 c κs = slot (c .before) .room
 
 slice-write-kinds-2 : tie.Need-slice-write-kinds-2
-slice-write-kinds-2 c = rw (c .before .before .before .before .before .before .before .before .before .wide2 .ensures .0) (growth-kinds _ _ (accepted (c .before .before .before .before .before .before .before .before .before .before .before)))
+slice-write-kinds-2 c =
+    let k = metadata (slot-zeroed c .before .before .before) .before in
+    rw (k .wide .ensures .0) (growth-kinds _ _ (accepted (k .before)))
 
-grown-requires-2 : tie.Need-grown-requires-2
-grown-requires-2 c κs = omega (arith, growth-end _ _ (accepted (c .before .before .before .before .before .before .before .before .before .before .before .before .before)))
-
-mark-requires : tie.Need-mark-requires
-mark-requires c κs = slot-low (c .before .before .before .before .before .before .before .before)
-
-eviction-requires : tie.Need-eviction-requires
-eviction-requires c κs = search needs
+seated-requires : tie.Need-seated-requires
+seated-requires c κs =
+    let f = slot-zeroed c .before .before in
+    (omega (arith, growth-end _ _ (accepted (begun (f .before)))), chosen-takes _ _ _ (answer (f .before)) (omega arith) (not-false _ (f .if3 .left)))
 
 accepted-requires-2 : tie.Need-accepted-requires-2
 accepted-requires-2 c κs = search needs
@@ -157,15 +149,14 @@ same-length-12 c = search needs
 
 returns-4 : tie.Need-returns-4
 returns-4 c =
-    let f = c .before .before .before .before .before .before .before .before .before .before .before .before .before .before in
-    let b = f .before .before .slot-for in
-    let t = f .before .before .before in
-    let a = t .before .before .before in
-    let s = a .before .before .before .before .before .before .before .before .before .before in
-    rw (c .accepted2 .ensures, t .before .wide2 .ensures .0)
-    (grow-seated (world s) (s .args .kind) (accepted a) (t .if2 .left) (absent a) (b .result) (b .ensures) (not-false _ (f .if3 .left))
-    (c .before .before .before .before .before .mark .result) (c .before .before .before .before .before .mark .ensures) (c .before .before .before .before .eviction .result) (c .before .before .before .before .eviction .ensures) (c .before .before .before .before .before .before .grown2 .result) (c .before .before .before .before .before .before .grown2 .ensures)
-    (c .before .before .before .before .before .before .before .before .before .before .before .clear2 .last .0) (rw (t .before .before .wide .ensures .0) at (c .before .before .before .before .before .before .before .before .before .before .before .clear2 .ensures)))
+    let z = slot-zeroed (c .before .before) in
+    let f = z .before .before in
+    let e = metadata (f .before) in
+    let k = e .before in
+    rw (c .accepted2 .ensures)
+    (grow-seated (world (start (k .before))) _ (accepted (k .before)) (k .wide .result) (k .wide .ensures .0) (e .if2 .left)
+    (f .before .before .slot-for .result) (answer (f .before)) (not-false _ (f .if3 .left))
+    (c .before .seated .result) (c .before .seated .ensures) (z .clear-page2 .last .0) (z .clear-page2 .ensures))
 
 pub grow-spec : {M : Type 1} → statement M
 grow-spec =
@@ -178,9 +169,7 @@ grow-spec =
     same-length-3
     returns
     wide-requires
-    wide-requires-2
-    mul-clear
-    clear-requires
+    clear-page-requires
     slice-write-kinds
     grown-requires
     accepted-requires
@@ -194,12 +183,9 @@ grow-spec =
     same-length-8
     same-length-9
     returns-3
-    mul-clear-2
-    clear-requires-2
+    clear-page-requires-2
     slice-write-kinds-2
-    grown-requires-2
-    mark-requires
-    eviction-requires
+    seated-requires
     accepted-requires-2
     same-length-10
     same-length-11

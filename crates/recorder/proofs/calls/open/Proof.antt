@@ -7,12 +7,28 @@ use borrow.Author.Needs.{needs}
 use Rattle.recorder.proofs.calls.open.Statement.{statement}
 use Rattle.recorder.proofs.calls.open.Tie as tie
 
+-- The way through the code, back from place to place: the tests were made, and have passed; the ledger was cleared; the front was
+-- written.
+
+abbrev given : tie.After-opens → tie.Start
+given c = c .before .before .before .before .before .before .before .before
+
+abbrev start : tie.Else1 → tie.Start
+start c = given (c .before)
+
+abbrev cleared : tie.After-write-empty-arg → tie.After-clear
+cleared c = c .before .before .before
+
+abbrev written : tie.After-slice-known4 → tie.After-write-empty
+written c = c .before .before
+
+-- What is known there.
+
 abbrev world : tie.Start → World
 world s = lent zeroState (s .args .ledger .now) (s .args .base .now) (s .args .side .now) (s .args .buffer .now) (s .args .kinds .now)
 
--- the tests have passed
-accepted : (c : tie.Else1) → Opening (c .before .before .before .before .before .before .before .before .before .args .settings) (c .before .before .before .before .before .before .before .before .before .args .end) (c .before .before .before .before .before .before .before .before .before .args .tick .0) (world (c .before .before .before .before .before .before .before .before .before))
-accepted c = opening _ _ _ (world (c .before .before .before .before .before .before .before .before .before)) (c .before .opens .result) (c .before .opens .ensures) (c .if1 .left)
+accepted : (c : tie.Else1) → Opening (start c .args .settings) (start c .args .end) (start c .args .tick .0) (world (start c))
+accepted c = opening _ _ _ (world (start c)) (c .before .opens .result) (c .before .opens .ensures) (c .if1 .left)
 
 opens-requires : tie.Need-opens-requires
 opens-requires c κs = search needs
@@ -31,10 +47,11 @@ same-length-2 c = search needs
 
 returns : tie.Need-returns
 returns c =
-    let s = c .before .before .before .before .before .before .before .before .before .before .before in
+    let t = c .before .before in
+    let s = given (t .before) in
     rw (c .refused .ensures)
     (open-refused (s .args .settings) (s .args .end) (s .args .tick .0) (world s)
-    (c .before .before .before .opens .result) (c .before .before .before .opens .ensures) (c .before .before .if1 .taken) (c .before .zero .result) (c .before .zero .ensures))
+    (t .before .opens .result) (t .before .opens .ensures) (t .if1 .taken) (c .before .zero .result) (c .before .zero .ensures))
 
 ledger-length-requires : tie.Need-ledger-length-requires
 ledger-length-requires c κs = accepted (c .before) .asked .limited
@@ -43,7 +60,7 @@ clear-requires : tie.Need-clear-requires
 clear-requires c κs = omega (arith, c .ledger-length .ensures .0, accepted (c .before .before) .asked .ledger-long)
 
 write-empty-requires : tie.Need-write-empty-requires
-write-empty-requires c κs = (accepted (c .before .before .before .before .before .before) .asked .limited, accepted (c .before .before .before .before .before .before) .index-long)
+write-empty-requires c κs = let a = accepted (cleared c .before .before .before) in (a .asked .limited, a .index-long)
 
 first-requires : tie.Need-first-requires
 first-requires c κs = search needs
@@ -59,13 +76,16 @@ same-length-4 c = search needs
 
 returns-2 : tie.Need-returns-2
 returns-2 c =
-    let a = c .before .before .before .before .before .before .before .before .before .before .before in
-    let s = a .before .before .before .before .before .before .before .before .before in
+    let e = written (c .before .before) in
+    let l = cleared (e .before) in
+    let a = l .before .before .before in
+    let s = start a in
     rw (c .accepted .ensures)
     (open-done (s .args .settings) (s .args .end) (s .args .tick .0) (world s) (accepted a)
     (c .before .first .result) (c .before .first .ensures)
-    (c .before .before .before .before .before .before .before .before .clear .last .0) (rw (c .before .before .before .before .before .before .before .before .before .ledger-length .ensures .0) at (c .before .before .before .before .before .before .before .before .clear .ensures))
-    (c .before .before .before .before .write-empty .last .0) (c .before .before .before .before .write-empty .ensures))
+    (l .before .ledger-length .result) (l .before .ledger-length .ensures .0)
+    (l .clear .last .0) (l .clear .ensures)
+    (e .write-empty .last .0) (e .write-empty .ensures))
 
 pub open-spec : {M : Type 1} → statement M
 open-spec =

@@ -1,46 +1,63 @@
-use Prim.Native.Nat.{_≤_, _+_, _*_}
 use mathlib.Core.Path.{_∙_, ap}
-use native.Mathlib.Omega.{arith}
 use lib.ListN.{length}
 use borrow.Author.Tests.{not-true, not-false}
-use Rattle.lists.specs.Maps.{length-mapped}
-use Rattle.slots.specs.Sits.{Whole}
 use Rattle.recorder.specs.Outcome.{lent}
-use Rattle.recorder.specs.World.{World, pageSize}
-use Rattle.recorder.proofs.Accepted.{slot-small, slot-long, brought-length, Access, access, access-asks, access-small, access-kinds, access-page, access-base, access-buffer}
-use Rattle.recorder.proofs.Replied.{read-refused, read-raw, read-found, read-nowhere}
+use Rattle.recorder.specs.Using.{Chosen}
+use Rattle.recorder.specs.World.{World}
+use Rattle.recorder.proofs.Accepted.{Slotted, slotted, brought-length, Access, access, access-asks, access-kinds, access-page, access-base, access-buffer}
+use Rattle.recorder.proofs.Bringing.{chosen-alone}
+use Rattle.recorder.proofs.Replied.{read-refused, read-raw, read-nowhere, read-found}
 use borrow.Author.Needs.{needs}
 use Rattle.recorder.proofs.calls.read.Statement.{statement}
 use Rattle.recorder.proofs.calls.read.Tie as tie
 
+-- The way through the code, back from place to place. The tests were made, and have passed; the kind was looked at, and is
+-- metadata; a slot was looked for, and there is one; the page was brought there. At the end of each way: the span was read from
+-- the base of a raw page, from the base without a slot, from the slot.
+
+abbrev given : tie.After-accesses → tie.Start
+given c = c .before .before .before .before .before .before .before .before
+
+abbrev start : tie.Else1 → tie.Start
+start c = given (c .before)
+
+abbrev passed : tie.After-shared-slice-known5 → tie.Else1
+passed c = c .before .before
+
+abbrev metadata : tie.After-struct-known → tie.Else2
+metadata c = c .before .before
+
+abbrev begun : tie.After-struct-known → tie.Else1
+begun c = passed (metadata c .before)
+
+abbrev found : tie.After-bring → tie.Else3
+found c = c .before .before
+
+abbrev brought : tie.After-read-span-arg4 → tie.After-bring
+brought c = c .before .before .before .before
+
+abbrev raw-read : tie.After-slice-known3 → tie.After-read-span
+raw-read c = c .before .before
+
+abbrev base-read : tie.After-slice-known4 → tie.After-read-span2
+base-read c = c .before .before
+
+abbrev slot-read : tie.After-slice-known6 → tie.After-read-span3
+slot-read c = c .before .before
+
+-- What is known there: the world, that its tests have passed, the answer for the page, its slot.
+
 abbrev world : tie.Start → World
 world s = lent (s .args .state) (s .args .ledger .now) (s .args .base .now) (s .args .side .now) (s .args .buffer .now) (s .args .kinds .now)
 
-whole : (s : tie.Start) → Whole (s .args .state .slots)
-whole s = record { pages = search (needs, length-mapped); changed = search needs; order = search (needs, length-mapped, s .good .0 .1 .1 .1 .1 .1 .1 .0 .1 .1 .1 .1 .0) }
+accepted : (c : tie.Else1) → Access (world (start c)) (start c .args .page .0) (start c .args .offset) (length (start c .args .into .now))
+accepted c = access (world (start c)) _ _ _ (c .before .accesses .result) (c .before .accesses .ensures) (c .if1 .left)
 
--- the tests have passed
-accepted : (c : tie.Else1) → Access (world (c .before .before .before .before .before .before .before .before .before)) (c .before .before .before .before .before .before .before .before .before .args .page .0) (c .before .before .before .before .before .before .before .before .before .args .offset) (length (c .before .before .before .before .before .before .before .before .before .args .into .now))
-accepted c = access (world (c .before .before .before .before .before .before .before .before .before)) _ _ _ (c .before .accesses .result) (c .before .accesses .ensures) (c .if1 .left)
+answer : (c : tie.After-struct-known) → Chosen (world (start (begun c))) (start (begun c) .args .page .0) (c .before .slot-for .result)
+answer c = chosen-alone (world (start (begun c))) _ _ (c .before .slot-for .ensures)
 
--- the page has a slot
-slot-fits : (c : tie.Else3) → c .before .before .slot-for .result .slot * pageSize (world (c .before .before .before .before .before .before .before .before .before .before .before .before .before .before .before .before .before .before)) ≤ 268431360
-slot-fits c =
-    let b = c .before .before .slot-for in
-    let a = accepted (c .before .before .before .before .before .before .before .before .before) in
-    slot-small (world (c .before .before .before .before .before .before .before .before .before .before .before .before .before .before .before .before .before .before)) (a .stands) (whole (c .before .before .before .before .before .before .before .before .before .before .before .before .before .before .before .before .before .before)) _ (access-asks _ _ _ _ a .1) (b .result) (b .ensures) (not-false _ (c .if3 .left))
-
-slot-room : (c : tie.Else3) → c .before .before .slot-for .result .slot * pageSize (world (c .before .before .before .before .before .before .before .before .before .before .before .before .before .before .before .before .before .before)) + pageSize (world (c .before .before .before .before .before .before .before .before .before .before .before .before .before .before .before .before .before .before)) ≤ length (c .before .before .before .before .before .before .before .before .before .before .before .before .before .before .before .before .before .before .args .buffer .now)
-slot-room c =
-    let b = c .before .before .slot-for in
-    let a = accepted (c .before .before .before .before .before .before .before .before .before) in
-    slot-long (world (c .before .before .before .before .before .before .before .before .before .before .before .before .before .before .before .before .before .before)) (a .stands) (whole (c .before .before .before .before .before .before .before .before .before .before .before .before .before .before .before .before .before .before)) _ (access-asks _ _ _ _ a .1) (b .result) (b .ensures) (not-false _ (c .if3 .left))
-
--- and is in it
-in-buffer : (c : tie.After-bring)
-    → c .before .before .before .before .slot-for .result .slot * pageSize (world (c .before .before .before .before .before .before .before .before .before .before .before .before .before .before .before .before .before .before .before .before)) + c .before .before .before .before .before .before .before .before .before .before .before .before .before .before .before .before .before .before .before .before .args .offset + length (c .before .before .before .before .before .before .before .before .before .before .before .before .before .before .before .before .before .before .before .before .args .into .now) ≤ length (c .bring .last .1 .1 .1 .0)
-in-buffer c =
-    access-buffer (world (c .before .before .before .before .before .before .before .before .before .before .before .before .before .before .before .before .before .before .before .before)) _ _ _ (accepted (c .before .before .before .before .before .before .before .before .before .before .before)) _ (slot-room (c .before .before)) (c .bring .last .1 .1 .1 .0) (ap length (c .bring .ensures) ∙ brought-length _ _ _ _)
+slot : (c : tie.Else3) → Slotted (world (start (begun (c .before)))) (start (begun (c .before)) .args .page .0) (c .before .before .slot-for .result)
+slot c = slotted _ (accepted (begun (c .before)) .stands) _ _ (answer (c .before)) (not-false _ (c .if3 .left))
 
 accesses-requires : tie.Need-accesses-requires
 accesses-requires c κs = search needs
@@ -53,34 +70,18 @@ same-length c = search needs
 
 returns : tie.Need-returns
 returns c =
-    let s = c .before .before .before .before .before .before .before .before .before .before in
-    rw (c .refused .ensures)
-    (read-refused (world s) _ _ (s .args .into .now) (c .before .before .accesses .result) (c .before .before .accesses .ensures) (c .before .if1 .taken))
+    let t = c .before in
+    let s = given (t .before) in
+    rw (c .refused .ensures) (read-refused (world s) _ _ (s .args .into .now) (t .before .accesses .result) (t .before .accesses .ensures) (t .if1 .taken))
 
 wide-requires : tie.Need-wide-requires
 wide-requires c κs = search needs
 
-wide-requires-2 : tie.Need-wide-requires-2
-wide-requires-2 c κs = search needs
-
-mul-in-base : tie.Need-mul-in-base
-mul-in-base c = rw (c .wide2 .ensures .0, c .before .wide .ensures .0) (omega (arith, access-small _ _ _ _ (accepted (c .before .before)) .0))
-
-wide-requires-3 : tie.Need-wide-requires-3
-wide-requires-3 c κs = search needs
-
-add-in-base : tie.Need-add-in-base
-add-in-base c = rw (c .before .wide2 .ensures .0, c .before .before .wide .ensures .0, c .wide3 .ensures .0) (omega (arith, access-small _ _ _ _ (accepted (c .before .before .before))))
-
-wide-requires-4 : tie.Need-wide-requires-4
-wide-requires-4 c κs = search needs
-
 shared-slice-read-if2 : tie.Need-shared-slice-read-if2
-shared-slice-read-if2 c = rw (c .before .wide4 .ensures .0) (access-kinds _ _ _ _ (accepted (c .before .before .before .before .before)))
+shared-slice-read-if2 c = rw (c .before .wide .ensures .0) (access-kinds _ _ _ _ (accepted (passed c)))
 
-copy-requires : tie.Need-copy-requires
-copy-requires c κs =
-    (rw (c .before .before .before .before .before .wide2 .ensures .0, c .before .before .before .before .before .before .wide .ensures .0, c .before .before .before .before .wide3 .ensures .0) (access-base _ _ _ _ (accepted (c .before .before .before .before .before .before .before))), search needs)
+read-span-requires : tie.Need-read-span-requires
+read-span-requires c κs = let k = c .before .before in rw (k .before .wide .ensures .0) (access-base _ _ _ _ (accepted (passed k)))
 
 raw-bypass-requires : tie.Need-raw-bypass-requires
 raw-bypass-requires c κs = search needs
@@ -96,19 +97,19 @@ same-length-3 c = search needs
 
 returns-2 : tie.Need-returns-2
 returns-2 c =
-    let t = c .before .before .before .before .before .before in
-    let a = t .before .before .before .before .before .before in
-    let s = a .before .before .before .before .before .before .before .before .before in
+    let r = raw-read (c .before .before) in
+    let t = r .before .before in
+    let k = t .before in
+    let s = start (passed k) in
     rw (c .accepted .ensures)
-    (read-raw (world s) (s .args .page .0) (s .args .offset) (s .args .into .now) (accepted a) (rw (t .before .before .wide4 .ensures .0) at (t .if2 .taken))
-    (c .before .raw-bypass .result) (c .before .raw-bypass .ensures)
-    (c .before .before .before .before .copy .last .1 .1 .0) (rw (t .before .before .before .before .wide2 .ensures .0, t .before .before .before .before .before .wide .ensures .0, t .before .before .before .wide3 .ensures .0) at (c .before .before .before .before .copy .ensures)))
+    (read-raw (world s) _ _ (s .args .into .now) (accepted (passed k)) (k .before .wide .result) (k .before .wide .ensures .0) (t .if2 .taken)
+    (c .before .raw-bypass .result) (c .before .raw-bypass .ensures) (r .read-span .last .1 .1 .1 .1 .0) (r .read-span .ensures))
 
 slot-for-requires : tie.Need-slot-for-requires
-slot-for-requires c κs = access-asks _ _ _ _ (accepted (c .before .before .before .before .before .before))
+slot-for-requires c κs = access-asks _ _ _ _ (accepted (passed (c .before)))
 
-copy-requires-2 : tie.Need-copy-requires-2
-copy-requires-2 c κs = (rw (c .before .before .before .before .before .before .before .before .wide2 .ensures .0, c .before .before .before .before .before .before .before .before .before .wide .ensures .0, c .before .before .before .before .before .before .before .wide3 .ensures .0) (access-base _ _ _ _ (accepted (c .before .before .before .before .before .before .before .before .before .before))), search needs)
+read-span-requires-2 : tie.Need-read-span-requires-2
+read-span-requires-2 c κs = let k = metadata (c .before .before) .before in rw (k .before .wide .ensures .0) (access-base _ _ _ _ (accepted (passed k)))
 
 meta-bypass-requires : tie.Need-meta-bypass-requires
 meta-bypass-requires c κs = search needs
@@ -124,60 +125,50 @@ same-length-5 c = search needs
 
 returns-3 : tie.Need-returns-3
 returns-3 c =
-    let f = c .before .before .before .before .before .before in
-    let b = f .before .before .slot-for in
-    let t = f .before .before .before in
-    let a = t .before .before .before .before .before .before in
-    let s = a .before .before .before .before .before .before .before .before .before in
+    let r = base-read (c .before .before) in
+    let t = r .before .before in
+    let e = metadata (t .before) in
+    let k = e .before in
+    let s = start (passed k) in
     rw (c .accepted2 .ensures)
-    (read-nowhere (world s) (s .args .page .0) (s .args .offset) (s .args .into .now) (accepted a) (rw (t .before .before .wide4 .ensures .0) at (t .if2 .left))
-    (b .result) (b .ensures) (not-true _ (f .if3 .taken))
-    (c .before .meta-bypass .result) (c .before .meta-bypass .ensures)
-    (c .before .before .before .before .copy2 .last .1 .1 .0) (rw (t .before .before .before .before .wide2 .ensures .0, t .before .before .before .before .before .wide .ensures .0, t .before .before .before .wide3 .ensures .0) at (c .before .before .before .before .copy2 .ensures)))
+    (read-nowhere (world s) _ _ (s .args .into .now) (accepted (passed k)) (k .before .wide .result) (k .before .wide .ensures .0) (e .if2 .left)
+    (t .before .before .slot-for .result) (answer (t .before)) (not-true _ (t .if3 .taken))
+    (c .before .meta-bypass .result) (c .before .meta-bypass .ensures) (r .read-span2 .last .1 .1 .1 .1 .0) (r .read-span2 .ensures))
 
 bring-requires : tie.Need-bring-requires
-bring-requires c κs = rw (c .before .before .before .before .before .before .before .before .before .wide .ensures .0) (access-page _ _ _ _ (accepted (c .before .before .before .before .before .before .before .before .before .before)), slot-room (c .before))
+bring-requires c κs =
+    let k = metadata (c .before .before) .before in
+    rw (k .before .wide .ensures .0) (access-page _ _ _ _ (accepted (passed k)), slot (c .before) .room)
 
-mul-copy : tie.Need-mul-copy
-mul-copy c = rw (c .before .before .before .before .before .before .before .before .before .before .before .before .before .before .wide .ensures .0) (omega (arith, slot-fits (c .before .before .before .before .before .before)))
-
-wide-requires-5 : tie.Need-wide-requires-5
-wide-requires-5 c κs = search needs
-
-add-copy : tie.Need-add-copy
-add-copy c =
-    rw (c .before .before .before .before .before .before .before .before .before .before .before .before .before .before .before .wide .ensures .0, c .wide5 .ensures .0)
-    (omega (arith, slot-fits (c .before .before .before .before .before .before .before), access-small _ _ _ _ (accepted (c .before .before .before .before .before .before .before .before .before .before .before .before .before .before .before .before))))
-
-copy-requires-3 : tie.Need-copy-requires-3
-copy-requires-3 c κs = (rw (c .before .before .before .before .before .before .before .before .before .before .before .before .before .before .before .before .wide .ensures .0, c .before .wide5 .ensures .0) (in-buffer (c .before .before .before .before .before .before)), search needs)
+read-span-requires-3 : tie.Need-read-span-requires-3
+read-span-requires-3 c κs =
+    let b = brought c in
+    access-buffer _ _ _ _ (accepted (begun (found b .before))) _ (slot (found b)) _ _ _ _ (b .bring .ensures)
 
 used-requires : tie.Need-used-requires
-used-requires c κs = search needs
+used-requires c κs = slot (found (brought (slot-read c .before))) .places
 
 accepted-requires-3 : tie.Need-accepted-requires-3
 accepted-requires-3 c κs = search needs
 
 same-length-6 : tie.Need-same-length-6
-same-length-6 c = ap length (c .before .before .before .before .before .before .before .before .before .before .before .before .before .before .before .before .bring .ensures) ∙ brought-length _ _ _ _
+same-length-6 c = ap length (brought (slot-read (c .before .before) .before) .bring .ensures) ∙ brought-length _ _ _ _
 
 same-length-7 : tie.Need-same-length-7
 same-length-7 c = search needs
 
 returns-4 : tie.Need-returns-4
 returns-4 c =
-    let g = c .before .before .before .before .before .before .before .before .before .before .before .before .before .before .before .before in
-    let f = g .before .before in
-    let b = f .before .before .slot-for in
-    let t = f .before .before .before in
-    let a = t .before .before .before .before .before .before in
-    let s = a .before .before .before .before .before .before .before .before .before in
+    let r = slot-read (c .before .before) in
+    let b = brought (r .before) in
+    let f = found b in
+    let e = metadata (f .before) in
+    let k = e .before in
+    let s = start (passed k) in
     rw (c .accepted3 .ensures)
-    (read-found (world s) (s .args .page .0) (s .args .offset) (s .args .into .now) (accepted a) (rw (t .before .before .wide4 .ensures .0) at (t .if2 .left))
-    (b .result) (b .ensures) (not-false _ (f .if3 .left))
-    (g .bring .last .1 .1 .1 .0) (rw (t .before .before .before .before .before .wide .ensures .0) at (g .bring .ensures)) (in-buffer g)
-    (c .before .before .before .before .before .before .before .before .before .copy3 .last .1 .1 .0) (rw (t .before .before .before .before .before .wide .ensures .0, c .before .before .before .before .before .before .before .before .before .before .before .wide5 .ensures .0) at (c .before .before .before .before .before .before .before .before .before .copy3 .ensures))
-    (c .before .before .before .before .used .result) (c .before .before .before .before .used .ensures))
+    (read-found (world s) _ _ (s .args .into .now) (accepted (passed k)) (k .before .wide .result) (k .before .wide .ensures .0) (e .if2 .left)
+    (f .before .before .slot-for .result) (answer (f .before)) (not-false _ (f .if3 .left))
+    (c .before .used .result) (c .before .used .ensures) (b .bring .last .1 .1 .1 .0) (b .bring .ensures) (r .read-span3 .last .1 .1 .1 .1 .0) (r .read-span3 .ensures))
 
 pub read-spec : {M : Type 1} → statement M
 read-spec =
@@ -188,30 +179,22 @@ read-spec =
     same-length
     returns
     wide-requires
-    wide-requires-2
-    mul-in-base
-    wide-requires-3
-    add-in-base
-    wide-requires-4
     shared-slice-read-if2
-    copy-requires
+    read-span-requires
     raw-bypass-requires
     accepted-requires
     same-length-2
     same-length-3
     returns-2
     slot-for-requires
-    copy-requires-2
+    read-span-requires-2
     meta-bypass-requires
     accepted-requires-2
     same-length-4
     same-length-5
     returns-3
     bring-requires
-    mul-copy
-    wide-requires-5
-    add-copy
-    copy-requires-3
+    read-span-requires-3
     used-requires
     accepted-requires-3
     same-length-6

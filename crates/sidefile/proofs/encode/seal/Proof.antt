@@ -11,6 +11,13 @@ use borrow.Author.Needs.{needs}
 use Rattle.sidefile.proofs.encode.seal.Statement.{statement}
 use Rattle.sidefile.proofs.encode.seal.Tie as tie
 
+-- from the header's writing back: where the rows were counted, and the entry
+abbrev counted : tie.After-write-header → tie.After-wide
+counted c = c .before .before .before .before .before
+
+abbrev start : tie.After-wide → tie.Start
+start c = c .before .before
+
 wide-requires : tie.Need-wide-requires
 wide-requires c κs = search needs
 
@@ -42,9 +49,9 @@ returns : tie.Need-returns
 unfolding sealed part checksum
 returns c =
     let w = c .before .before in
-    let a = w .before .before .before .before .before .before .before .args in
+    let a = start (counted w) .args in
     let h : Header = record { settings = a .settings; closed = a .closed; end = a .end; entries = a .n } in
-    let rows = w .before .before .before .before .before .wide in
+    let rows = counted w .wide in
     let long : headerLength + indexRow * rows .result - headerLength ≡ indexRow * a .n = omega (arith, rows .ensures .0) in
     w .write-header .ensures
     ∙ ap (λ (sum : ℕ). lay (a .s .now) 0 (headerBytes h sum))

@@ -1,10 +1,20 @@
+use Prim.Native.Nat.{ℕ, _*_}
+use mathlib.Core.Path.{_∙_, ap}
 use native.Mathlib.Omega.{arith}
-use Rattle.octets.specs.Part.{length-lay}
-use Rattle.units.specs.Sizes.{indexEnd}
-use Rattle.sidefile.specs.Sealed.{sealed-empty}
+use lib.ListN.{replicate}
+use Rattle.octets.specs.Part.{lay, length-lay}
+use Rattle.units.specs.Sizes.{headerLength, indexRow, indexEnd}
+use Rattle.sidefile.specs.Sealed.{sealed, sealed-empty}
 use borrow.Author.Needs.{needs}
 use Rattle.sidefile.proofs.encode.write_empty.Statement.{statement}
 use Rattle.sidefile.proofs.encode.write_empty.Tie as tie
+
+-- from the call of `seal` back: the index cleared, the entry
+abbrev cleared : tie.After-seal-arg → tie.After-clear
+cleared c = c .before .before .before
+
+abbrev start : tie.After-clear → tie.Start
+start c = c .before .before .before .before
 
 entries-requires : tie.Need-entries-requires
 entries-requires c κs = search needs
@@ -19,7 +29,8 @@ clear-requires c κs = omega (arith, c .before .before .before .pre .1, c .entri
 seal-requires : tie.Need-seal-requires
 unfolding indexEnd
 seal-requires c κs =
-    rw (c .before .before .before .clear .ensures, length-lay) (omega (arith, c .before .before .before .before .before .before .before .pre .1))
+    let l = cleared c in
+    rw (l .clear .ensures, length-lay) (omega (arith, start l .pre .1))
 
 same-length : tie.Need-same-length
 same-length c = search needs
@@ -27,11 +38,12 @@ same-length c = search needs
 returns : tie.Need-returns
 unfolding indexEnd
 returns c =
-    let l = c .before .before .before .before .before .before in
-    let s = l .before .before .before .before in
-    let a = s .args in
-    rw (c .before .before .seal .ensures, l .clear .ensures, l .before .entries .ensures .0)
-    (sealed-empty (a .settings) (a .closed) (a .end) (a .s .now) (omega (arith, s .pre .1)))
+    let l = cleared (c .before .before .before) in
+    let a = start l .args in
+    let rows = ap (λ (n : ℕ). lay (a .s .now) headerLength (replicate (indexRow * n) 0)) (l .before .entries .ensures .0) in
+    c .before .before .seal .ensures
+    ∙ ap (sealed (a .settings) (a .closed) (a .end) 0) (l .clear .ensures ∙ rows)
+    ∙ sealed-empty (a .settings) (a .closed) (a .end) (a .s .now) (omega (arith, start l .pre .1))
 
 pub write-empty-spec : {M : Type 1} → statement M
 write-empty-spec =

@@ -6,6 +6,19 @@ use borrow.Author.Needs.{needs}
 use Rattle.sidefile.proofs.encode.write_header.Statement.{statement}
 use Rattle.sidefile.proofs.encode.write_header.Tie as tie
 
+-- from the end back: the header's own checksum, its second half, its first half, the entry
+abbrev summed : tie.After-slice-known4 → tie.After-checksum
+summed c = c .before .before .before .before
+
+abbrev second : tie.After-slice-known4 → tie.After-write-second
+second c = summed c .before .before .before .before
+
+abbrev first : tie.After-slice-known4 → tie.After-write-first
+first c = second c .before .before .before .before
+
+abbrev start : tie.After-slice-known4 → tie.Start
+start c = first c .before .before .before
+
 write-first-requires : tie.Need-write-first-requires
 write-first-requires c κs = search needs
 
@@ -30,11 +43,9 @@ same-length c = search needs
 returns : tie.Need-returns
 unfolding checksum
 returns c =
-    let a = c .before .before .before .before .before .before .before .before .before .before .before .before .before .before .before .args in
-    headed (a .header) (a .sum) _ (a .s .now) _ _ _ (search needs)
-    (c .before .before .before .before .before .before .before .before .before .before .before .before .write-first .ensures)
-    (c .before .before .before .before .before .before .before .before .write-second .ensures)
-    (c .before .before .before .before .checksum .ensures)
+    let a = start c .args in
+    headed (a .header) (a .sum) _ (a .s .now) _ _ _ (search needs) (first c .write-first .ensures) (second c .write-second .ensures)
+    (summed c .checksum .ensures)
     (c .before .before .store32 .ensures)
 
 pub write-header-spec : {M : Type 1} → statement M

@@ -3,6 +3,10 @@ use borrow.Author.Needs.{needs}
 use Rattle.sidefile.proofs.headers.header_of.Statement.{statement}
 use Rattle.sidefile.proofs.headers.header_of.Tie as tie
 
+-- from the end back to where the lag was read, behind size and slots
+abbrev lagged : tie.After-load324 → tie.After-load162
+lagged c = c .before .before .before
+
 load32-requires : tie.Need-load32-requires
 load32-requires c κs = search needs
 
@@ -26,9 +30,9 @@ unfolding headerOf
 returns c =
     λ i. record {
       settings = record {
-        size = c .before .before .before .before .before .load32 .ensures .0 i;
-        slots = c .before .before .before .before .load16 .ensures .0 i;
-        lag = c .before .before .before .load162 .ensures .0 i;
+        size = lagged c .before .before .load32 .ensures .0 i;
+        slots = lagged c .before .load16 .ensures .0 i;
+        lag = lagged c .load162 .ensures .0 i;
         capacity = 65535;
       };
       closed = record { 0 = c .before .before .load322 .ensures .0 i };

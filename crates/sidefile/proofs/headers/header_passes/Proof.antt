@@ -19,18 +19,30 @@ use Rattle.sidefile.proofs.Answers.{yes, no}
 use Rattle.sidefile.proofs.headers.header_passes.Statement.{statement}
 use Rattle.sidefile.proofs.headers.header_passes.Tie as tie
 
--- the bytes, and what the header that was read says of them, from behind each test
+-- the entry and the bytes; from behind each test the one before it, and the header that was read
+abbrev start : tie.Else1 → tie.Start
+start c = c .before .before .before .before .before
+
 abbrev bytes : tie.Else1 → List ℕ
-bytes c = c .before .before .before .before .before .args .s .now
+bytes c = start c .args .s .now
+
+abbrev second : tie.Else3 → tie.Else2
+second c = c .before .before
+
+abbrev third : tie.Else4 → tie.Else3
+third c = c .before .before
+
+abbrev fourth : tie.Else5 → tie.Else4
+fourth c = c .before .before
 
 abbrev past2 : tie.Else2 → tie.After-header-of
 past2 c = c .before .before .before
 
 abbrev past3 : tie.Else3 → tie.After-header-of
-past3 c = past2 (c .before .before)
+past3 c = past2 (second c)
 
 abbrev past4 : tie.Else4 → tie.After-header-of
-past4 c = past3 (c .before .before)
+past4 c = past3 (third c)
 
 says : (c : tie.After-header-of) (t : Header → Bool) → t (headerOf (bytes (c .before))) ≡ t (c .header-of .result)
 says c t = ap t (sym (c .header-of .ensures))
@@ -81,13 +93,13 @@ unfolding headerTests
 returns-3 c = sym (fails-at 2 _ (ne-eqb _ _ (λ z. c .if3 .taken (c .before .load16 .ensures .0 ∙ z))))
 
 long-enough-requires : tie.Need-long-enough-requires
-long-enough-requires c κs = limited (c .before .before)
+long-enough-requires c κs = limited (second c)
 
 returns-4 : tie.Need-returns-4
 unfolding headerTests
 returns-4 c =
     let h = past3 (c .before .before) in
-    let a = h .before .before .before .before .before .before .args in
+    let a = start (h .before) .args in
     sym (fails-at 3 _
     (says h (λ h. asks (a .whole) (a .n) (h .settings)) ∙ no (c .before .long-enough .ensures) (c .if4 .taken)))
 
@@ -100,21 +112,21 @@ wide-requires : tie.Need-wide-requires
 wide-requires c κs = search needs
 
 entries-requires : tie.Need-entries-requires
-entries-requires c κs = limited (c .before .before .before .before .before .before .before)
+entries-requires c κs = limited (second (third (fourth (c .before))))
 
 returns-6 : tie.Need-returns-6
 unfolding headerTests
 returns-6 c =
     let e5 = c .before .before in
-    let e4 = e5 .before .before in
-    let e3 = e4 .before .before in
+    let e4 = fourth e5 in
+    let e3 = third e4 in
     let h = past4 e4 in
-    let a = h .before .before .before .before .before .before .args in
+    let a = start (h .before) .args in
     rw (c .before .wide .ensures .0, c .entries .ensures .0)
     (sym (says h (λ h. leb (h .entries) (entries (h .settings))))
     ∙ sym (passes-last 5 _ _ refl
     (more (summed (h .before))
-    (more (says h (λ h. limits (h .settings)) ∙ limited (e3 .before .before))
+    (more (says h (λ h. limits (h .settings)) ∙ limited (second e3))
     (more (zeroed e3)
     (more (says h (λ h. asks (a .whole) (a .n) (h .settings)) ∙ yes (e4 .before .long-enough .ensures) (e4 .if4 .left))
     (more (says h (λ h. leb (h .end) 65535) ∙ le-leb _ _ (e5 .if5 .left))

@@ -9,6 +9,13 @@ use borrow.Author.Needs.{needs}
 use Rattle.sidefile.proofs.headers.well_marked.Statement.{statement}
 use Rattle.sidefile.proofs.headers.well_marked.Tie as tie
 
+-- from behind the tests back: past the third of them, and past the first
+abbrev third : tie.Else5 → tie.Else3
+third c = c .before .before .before .before
+
+abbrev first : tie.Else3 → tie.Else1
+first c = c .before .before .before .before
+
 returns : tie.Need-returns
 unfolding markTests
 returns c = sym (fails-at 0 _ (lt-leb _ _ (c .if1 .taken)))
@@ -49,9 +56,9 @@ unfolding markTests
 returns-6 c =
     ap (λ (k : ℕ). eqb k 1) (c .load16 .ensures .0)
     ∙ sym (passes-last 5 _ _ refl
-    (more (le-leb _ _ (c .before .before .before .before .before .before .before .before .before .if1 .left))
-    (more (eq-eqb _ _ (c .before .before .before .before .before .before .before .if2 .left))
-    (more (eq-eqb _ _ (c .before .before .before .before .before .if3 .left))
+    (more (le-leb _ _ (first (third (c .before)) .if1 .left))
+    (more (eq-eqb _ _ (third (c .before) .before .before .if2 .left))
+    (more (eq-eqb _ _ (third (c .before) .if3 .left))
     (more (eq-eqb _ _ (c .before .before .before .if4 .left))
     (more (eq-eqb _ _ (c .before .if5 .left))
     done))))))

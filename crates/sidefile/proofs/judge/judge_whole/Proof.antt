@@ -10,13 +10,16 @@ use Rattle.sidefile.proofs.Answers.{yes, no}
 use Rattle.sidefile.proofs.judge.judge_whole.Statement.{statement}
 use Rattle.sidefile.proofs.judge.judge_whole.Tie as tie
 
+abbrev start : tie.Else1 → tie.Start
+start c = c .before .before .before
+
 abbrev bytes : tie.Else1 → List ℕ
-bytes c = c .before .before .before .args .s .now
+bytes c = start c .args .s .now
 
 marked : (c : tie.Else1) → passes (markTests (bytes c)) ≡ true
 marked c = yes (c .before .well-marked .ensures) (c .if1 .left)
 
-headed : (c : tie.Else2) → passes (headerTests (reaches (c .before .before .before .before .before .args .n)) (bytes (c .before .before))) ≡ true
+headed : (c : tie.Else2) → passes (headerTests (reaches (start (c .before .before) .args .n)) (bytes (c .before .before))) ≡ true
 headed c = yes (c .before .header-passes .ensures) (c .if2 .left)
 
 well-marked-requires : tie.Need-well-marked-requires
@@ -38,7 +41,7 @@ returns-2 c =
     sym (verdict-behind _ _ (marked (c .before .before)) ∙ verdict-before _ _ e ∙ header-refused _ _ e)
 
 index-passes-requires : tie.Need-index-passes-requires
-index-passes-requires c κs = indexed-whole _ _ (headed c) (c .before .before .before .before .before .pre)
+index-passes-requires c κs = indexed-whole _ _ (headed c) (start (c .before .before) .pre)
 
 returns-3 : tie.Need-returns-3
 unfolding wholeTests

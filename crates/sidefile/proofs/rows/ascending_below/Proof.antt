@@ -15,25 +15,34 @@ Inv-loop s at w n end low₀ i₀ low i = (i ≤ n) × (pagesFit end (entriesAt 
 abbrev μ-loop : tie.MeasureT-loop
 μ-loop s at w n end low₀ i₀ low i = n - i
 
+-- from where a row was read back to the turn of the loop, and from there to the entry
+abbrev turn : tie.After-number Inv-loop μ-loop → tie.At-loop Inv-loop μ-loop
+turn c = c .before .before
+
+abbrev start : tie.At-loop Inv-loop μ-loop → tie.Start Inv-loop μ-loop
+start c = c .before .before
+
 loop-holds : tie.Need-loop-holds Inv-loop μ-loop
 unfolding pagesFit rising
 loop-holds c = (search needs, refl)
 
 number-requires : tie.Need-number-requires Inv-loop μ-loop
 number-requires c κs =
-    let a = c .before .before .before .args in
+    let a = start (c .before) .args in
     omega (arith, row-in (a .w) (c .before .loop .i) (a .n) (omega arith))
 
 returns : tie.Need-returns Inv-loop μ-loop
 returns c =
-    let a = c .before .before .before .before .before .args in
-    let l = c .before .before .before .loop in
+    let t = turn (c .before) in
+    let a = start t .args in
+    let l = t .loop in
     sym (l .inv .1 ∙ rising-low (a .at) (a .w) (a .n) (a .s .now) (l .i) (omega arith) (a .end) (l .low) (omega arith))
 
 returns-2 : tie.Need-returns-2 Inv-loop μ-loop
 returns-2 c =
-    let a = c .before .before .before .before .before .before .args in
-    let l = c .before .before .before .before .loop in
+    let t = turn (c .before .before) in
+    let a = start t .args in
+    let l = t .loop in
     sym (l .inv .1 ∙ rising-far (a .at) (a .w) (a .n) (a .s .now) (l .i) (omega arith) (a .end) (l .low) (omega arith))
 
 add-low : tie.Need-add-low Inv-loop μ-loop
@@ -47,8 +56,9 @@ loop-less c = search needs
 
 loop-again : tie.Need-loop-again Inv-loop μ-loop
 loop-again c =
-    let a = c .before .before .before .before .before .before .args in
-    let l = c .before .before .before .before .loop in (
+    let t = turn (c .before .before) in
+    let a = start t .args in
+    let l = t .loop in (
       search needs,
       rw (c .before .before .number .ensures .0)
           (l .inv .1 ∙ rising-next (a .at) (a .w) (a .n) (a .s .now) (l .i) (omega arith) (a .end) (l .low) (omega arith) (omega arith)),
@@ -56,7 +66,7 @@ loop-again c =
 
 returns-3 : tie.Need-returns-3 Inv-loop μ-loop
 returns-3 c =
-    let a = c .before .before .before .args in
+    let a = start (c .before) .args in
     let l = c .before .loop in
     sym (l .inv .1 ∙ rising-end (a .at) (a .w) (a .n) (a .s .now) (l .i) (omega arith) (a .end) (l .low))
 

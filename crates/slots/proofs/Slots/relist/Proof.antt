@@ -23,6 +23,10 @@ Inv-loop gone self₀ carry₀ i₀ self carry i =
 abbrev μ-loop : tie.MeasureT-loop
 μ-loop gone self₀ carry₀ i₀ self carry i = i
 
+-- the loop's head, from where a page of the order is known
+abbrev head : tie.After-struct-known2 Inv-loop μ-loop → tie.At-loop Inv-loop μ-loop
+head c = c .before .before .before .before
+
 long : (s : tie.Start Inv-loop μ-loop) → length (s .args .t1 .order) ≡ 16
 long s = search (needs, length-mapped)
 
@@ -60,7 +64,7 @@ loop-less c = search needs
 
 loop-again : tie.Need-loop-again Inv-loop μ-loop
 loop-again c =
-    let l = c .before .before .before .before .before in
+    let l = head (c .before) in
     let x = l .before .before .args .gone .0 in
     let o = l .loop .self .order in
     let j = l .loop .i - 1 in (
@@ -78,7 +82,7 @@ returns c = let e : c .before .loop .i ≡ 0 = omega arith in absurd (omega (ari
 
 returns-2 : tie.Need-returns-2 Inv-loop μ-loop
 returns-2 c =
-    let l = c .before .before .before .before .before in
+    let l = head (c .before) in
     let x = l .before .before .args .gone .0 in
     let o = l .loop .self .order in
     let j = l .loop .i - 1 in

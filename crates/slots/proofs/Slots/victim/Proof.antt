@@ -23,11 +23,18 @@ Inv-search slots self mask used k₀ k =
 abbrev μ-search : tie.MeasureT-search
 μ-search slots self mask used k₀ k = used - k
 
-abbrev At-loop : Type 0
-At-loop = tie.At-loop Inv-loop μ-loop Inv-search μ-search
+-- the heads of the two loops and the start: from a row that has the page or not, from the inner loop, from the outer one
+abbrev head : tie.After-struct-known2 Inv-loop μ-loop Inv-search μ-search → tie.At-loop Inv-loop μ-loop Inv-search μ-search
+head c = c .before .before .before .before
 
-long : (s : tie.Start Inv-loop μ-loop Inv-search μ-search) → s .args .t1 .used ≤ length (s .args .t1 .order)
-long s = let e : length (s .args .t1 .order) ≡ 16 = search (needs, length-mapped) in omega arith
+abbrev outer : tie.At-loop Inv-loop μ-loop Inv-search μ-search → tie.At-search Inv-loop μ-loop Inv-search μ-search
+outer l = l .before .before .before
+
+abbrev start : tie.At-search Inv-loop μ-loop Inv-search μ-search → tie.Start Inv-loop μ-loop Inv-search μ-search
+start s = s .before .before
+
+long : (s : tie.At-search Inv-loop μ-loop Inv-search μ-search) → start s .args .t1 .used ≤ length (start s .args .t1 .order)
+long s = let e : length (start s .args .t1 .order) ≡ 16 = search (needs, length-mapped) in omega arith
 
 wide-requires : tie.Need-wide-requires Inv-loop μ-loop Inv-search μ-search
 wide-requires c κs = search needs
@@ -53,11 +60,11 @@ search-less c = search needs
 search-again : tie.Need-search-again Inv-loop μ-loop Inv-search μ-search
 search-again c =
     let l = c .before in
-    let s = l .before .before .before in
-    let a = s .before .before .args in (
+    let s = outer l in
+    let a = start s .args in (
       search needs,
       s .search .inv .1
-          ∙ victim-absent (a .slots) (a .t3) (a .t1) (s .search .k) (long (s .before .before)) (omega arith)
+          ∙ victim-absent (a .slots) (a .t3) (a .t1) (s .search .k) (long s) (omega arith)
           (l .loop .inv .1 ∙ slot-end (a .slots) (a .t1) _ (l .loop .i) (omega arith)),
     )
 
@@ -75,12 +82,12 @@ search-less-2 c = search needs
 
 search-again-2 : tie.Need-search-again-2 Inv-loop μ-loop Inv-search μ-search
 search-again-2 c =
-    let l = c .before .before .before .before .before .before in
-    let s = l .before .before .before in
-    let a = s .before .before .args in (
+    let l = head (c .before .before) in
+    let s = outer l in
+    let a = start s .args in (
       search needs,
       s .search .inv .1
-          ∙ victim-spared (a .slots) (a .t3) (a .t1) (s .search .k) (long (s .before .before)) (omega arith) (l .loop .i)
+          ∙ victim-spared (a .slots) (a .t3) (a .t1) (s .search .k) (long s) (omega arith) (l .loop .i)
           (l .loop .inv .1 ∙ slot-here (a .slots) (a .t1) _ (l .loop .i) (omega arith) (c .before .if2 .taken))
           (c .if3 .taken),
     )
@@ -93,24 +100,24 @@ loop-less c = search needs
 
 loop-again : tie.Need-loop-again Inv-loop μ-loop Inv-search μ-search
 loop-again c =
-    let l = c .before .before .before .before .before in
-    let a = l .before .before .before .before .before .args in
+    let l = head (c .before) in
+    let a = start (outer l) .args in
     (search needs, l .loop .inv .1 ∙ slot-next (a .slots) (a .t1) _ (l .loop .i) (omega arith) (c .if2 .left))
 
 returns : tie.Need-returns Inv-loop μ-loop Inv-search μ-search
 returns c =
     let s = c .before in
-    let a = s .before .before .args in
-    sym (s .search .inv .1 ∙ victim-end (a .slots) (a .t3) (a .t1) (s .search .k) (long (s .before .before)) (omega arith))
+    let a = start s .args in
+    sym (s .search .inv .1 ∙ victim-end (a .slots) (a .t3) (a .t1) (s .search .k) (long s) (omega arith))
 
 returns-2 : tie.Need-returns-2 Inv-loop μ-loop Inv-search μ-search
 returns-2 c =
-    let l = c .before .before .before .before .before .before in
-    let s = l .before .before .before in
-    let a = s .before .before .args in
+    let l = head (c .before .before) in
+    let s = outer l in
+    let a = start s .args in
     sym
     (s .search .inv .1
-    ∙ victim-here (a .slots) (a .t3) (a .t1) (s .search .k) (long (s .before .before)) (omega arith) (l .loop .i)
+    ∙ victim-here (a .slots) (a .t3) (a .t1) (s .search .k) (long s) (omega arith) (l .loop .i)
     (l .loop .inv .1 ∙ slot-here (a .slots) (a .t1) _ (l .loop .i) (omega arith) (c .before .if2 .taken))
     (c .if3 .left))
 

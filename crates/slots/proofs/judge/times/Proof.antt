@@ -18,6 +18,10 @@ Inv-loop n page list count₀ i₀ count i =
 abbrev μ-loop : tie.MeasureT-loop
 μ-loop n page list count₀ i₀ count i = 16 - i
 
+-- the loop's head, from where an element is known
+abbrev head : tie.After-struct-known2 Inv-loop μ-loop → tie.At-loop Inv-loop μ-loop
+head c = c .before .before .before .before
+
 long : (s : tie.Start Inv-loop μ-loop) → length (s .args .t1) ≡ 16
 long s = search (needs, length-mapped)
 
@@ -41,7 +45,7 @@ loop-less c = search needs
 
 loop-again : tie.Need-loop-again Inv-loop μ-loop
 loop-again c =
-    let l = c .before .before .before .before .before in
+    let l = head (c .before) in
     let a = l .before .args in
     let m : a .n ≤ length (a .t1) = omega (arith, long (l .before)) in
     ⊎-elim

@@ -1,8 +1,8 @@
 use borrow.Author.Needs.{needs}
 use Rattle.sidefile.specs.Encode.{indexEntryOf}
 use Rattle.sidefile.specs.Table.{column}
-use Rattle.desk.proofs.locate.entry_at.Statement.{statement}
-use Rattle.desk.proofs.locate.entry_at.Tie as tie
+use Rattle.sidefile.proofs.rows.entry.Statement.{statement}
+use Rattle.sidefile.proofs.rows.entry.Tie as tie
 
 number-requires : tie.Need-number-requires
 number-requires c κs = search needs
@@ -26,7 +26,7 @@ returns c =
       sum = c .number4 .ensures .0 i;
     }
 
-pub entry-at-spec : {M : Type 1} → statement M
-entry-at-spec =
+pub entry-spec : {M : Type 1} → statement M
+entry-spec =
     tie.close
     (tie.spec number-requires number-requires-2 number-requires-3 number-requires-4 returns)
