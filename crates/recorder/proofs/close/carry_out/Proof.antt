@@ -1,5 +1,5 @@
-use Prim.Native.Nat.{ℕ, _*_}
-use mathlib.Core.Path.{_≡_, refl, _∙_, sym, ap, subst}
+use Prim.Native.Nat.{ℕ}
+use mathlib.Core.Path.{refl, _∙_, sym, ap, subst}
 use mathlib.Core.List.{List}
 use native.Mathlib.Omega.{arith}
 use borrow.Author.Needs.{needs}
@@ -81,16 +81,19 @@ summed c w k =
       made = c .write-images .ensures .0;
     }
 
-anew : (c : tie.After-put-all) (w : World) → Carries (world (first (images (c .before))) w) (first (images (c .before)) .args .tick) (lists (first (images (c .before))))
-    → Anew (world (first (images (c .before))) w) (first (images (c .before)) .args .tick) (lists (first (images (c .before)))) (sums (images (c .before))) (c .put-all .result) (c .put-all .last .0)
+abbrev begun : tie.After-put-all → tie.Start
+begun c = first (images (c .before))
+
+anew : (c : tie.After-put-all) (w : World) → Carries (world (begun c) w) (begun c .args .tick) (lists (begun c))
+    → Anew (world (begun c) w) (begun c .args .tick) (lists (begun c)) (sums (images (c .before))) (c .put-all .result) (c .put-all .last .0)
 anew c w k =
     let i = images (c .before) in
     put-anew (summed i w k) (left (settles (i .before)) w) _ (c .put-all .ensures .0) _ (c .put-all .ensures .1)
 
 -- by the world that is known at the start
 known : (c : tie.After-put-all)
-    → Anew (world (first (images (c .before))) (first (images (c .before)) .pre .0)) (first (images (c .before)) .args .tick) (lists (first (images (c .before)))) (sums (images (c .before))) (c .put-all .result) (c .put-all .last .0)
-known c = anew c (first (images (c .before)) .pre .0) (first (images (c .before)) .pre .1)
+    → Anew (world (begun c) (begun c .pre .0)) (begun c .args .tick) (lists (begun c)) (sums (images (c .before))) (c .put-all .result) (c .put-all .last .0)
+known c = anew c (begun c .pre .0) (begun c .pre .1)
 
 wide-requires : tie.Need-wide-requires
 wide-requires c κs = search needs

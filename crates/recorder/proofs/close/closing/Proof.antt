@@ -1,6 +1,5 @@
-use Prim.Native.Nat.{ℕ}
 use mathlib.Core.Path.{_≡_, refl, _∙_, sym, ap, subst}
-use mathlib.Core.Bool.{Bool, true, false}
+use mathlib.Core.Bool.{true, false}
 use mathlib.Core.List.{List}
 use native.Mathlib.Omega.{arith}
 use borrow.Author.Needs.{needs}
@@ -12,7 +11,7 @@ use Rattle.slots.specs.Numbers.{pagesOf}
 use Rattle.recorder.specs.Carried.{Closes, Carries, Carried}
 use Rattle.recorder.specs.Close.{suffices}
 use Rattle.recorder.specs.Handed.{handed, flagged, filed}
-use Rattle.recorder.specs.Planned.{Plans, Lists, Planned}
+use Rattle.recorder.specs.Planned.{Plans, Lists}
 use Rattle.recorder.specs.World.{World}
 use Rattle.recorder.proofs.Carrying.{few-closed}
 use Rattle.recorder.proofs.Ending.{ended}

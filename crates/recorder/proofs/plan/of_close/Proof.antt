@@ -12,7 +12,7 @@ use Rattle.slots.specs.Numbers.{pagesOf}
 use Rattle.recorder.specs.Handed.{handed, flagged}
 use Rattle.recorder.specs.Planned.{Lists, PlansTo}
 use Rattle.recorder.specs.World.{World}
-use Rattle.recorder.proofs.Planning.{Asked, Answers, asked, going-whole, going-bytes, enough-rows, enough-not, plans}
+use Rattle.recorder.proofs.Planning.{Asked, asked, going-whole, going-bytes, enough-rows, enough-not, plans}
 use Rattle.recorder.proofs.plan.of_close.Statement.{statement}
 use Rattle.recorder.proofs.plan.of_close.Tie as tie
 
