@@ -3,7 +3,7 @@
 use Prim.Native.Nat.{ℕ, _+_, _*_, _<_, _≤_}
 use mathlib.Core.Path.{_≡_, refl, _∙_, sym, ap}
 use mathlib.Core.Bool.{Bool, true, false}
-use mathlib.Core.List.{List, _++_}
+use mathlib.Core.List.{List}
 use native.Mathlib.Omega.{arith}
 use lib.ListN.{length}
 use Rattle.octets.specs.Part.{length-lay}
@@ -15,6 +15,7 @@ use Rattle.recorder.specs.Asked.{Span, numbered-span, span-facts, number
 use Rattle.recorder.specs.Calls.{openTests, spanTests, growTests}
 use Rattle.recorder.specs.Facts.{rule-facts, Stands, stands-facts}
 use Rattle.recorder.specs.Rules.{rules, standing}
+use Rattle.recorder.specs.Tests.{accessTests, growthTests}
 use Rattle.recorder.specs.Using.{Places, Chosen, broughtTo}
 use Rattle.recorder.specs.World.{World, pageSize}
 use Rattle.recorder.specs.declared.buffer.Use.{Use}
@@ -42,14 +43,14 @@ brought-length false xs at page = length-lay xs at page
 
 -- read and write of n bytes
 pub record Access (w : World) (p offset n : ℕ) : Type 0 where
-  pub passed : passes (standing w ++ spanTests w p offset n) ≡ true
+  pub passed : passes (accessTests w p offset n) ≡ true
   pub stands : Stands w
   pub span : Span w p offset n
 
 module _ (w : World) (p offset n : ℕ) where
-  pub access : (number : ℕ) → number ≡ verdict (standing w ++ spanTests w p offset n) → number ≡ 0 → Access w p offset n
+  pub access : (number : ℕ) → number ≡ verdict (accessTests w p offset n) → number ≡ 0 → Access w p offset n
   access number e z =
-      let h = verdict-none (standing w ++ spanTests w p offset n) (numbered-span w p offset n) (sym e ∙ z) in
+      let h = verdict-none (accessTests w p offset n) (numbered-span w p offset n) (sym e ∙ z) in
       let g = passes-both (standing w) (spanTests w p offset n) h in
       record { passed = h; stands = stands-facts w (g .0); span = span-facts w p offset n (g .1) }
 
@@ -77,14 +78,14 @@ module _ (w : World) (p offset n : ℕ) where
 
 -- grow
 pub record Growth (w : World) (kind : ℕ) : Type 0 where
-  pub passed : passes (standing w ++ growTests w kind) ≡ true
+  pub passed : passes (growthTests w kind) ≡ true
   pub stands : Stands w
   pub room : w .state .end < w .state .settings .capacity
 
 module _ (w : World) (kind : ℕ) where
-  pub growth : (number : ℕ) → number ≡ verdict (standing w ++ growTests w kind) → number ≡ 0 → Growth w kind
+  pub growth : (number : ℕ) → number ≡ verdict (growthTests w kind) → number ≡ 0 → Growth w kind
   growth number e z =
-      let h = verdict-none (standing w ++ growTests w kind) (numbered-grow w kind) (sym e ∙ z) in
+      let h = verdict-none (growthTests w kind) (numbered-grow w kind) (sym e ∙ z) in
       let g = passes-both (standing w) (growTests w kind) h in
       record { passed = h; stands = stands-facts w (g .0); room = grow-facts w kind (g .1) .1 }
 

@@ -39,7 +39,7 @@ module _ (w : World) where
   close-refused n e ne = sym (in-parts ∙ refused-before (refuse w []) (accept (closed w) []) early last n e ne)
 
   pub close-passes : (n : ℕ) → n ≡ verdict early → n ≡ 0 → passes early ≡ true
-  unfolding standing lastTick allOf
+  unfolding standing lastTick closeTests allOf
   close-passes n e z = verdict-none early refl (sym e ∙ z)
 
   module _ (g : passes early ≡ true) where
@@ -53,7 +53,7 @@ module _ (w : World) where
     close-stands = stands-facts w (passes-both (standing w) (lastTick w) g .0)
 
     pub close-low : w .state .closed .0 < top
-    unfolding lastTick passes
+    unfolding lastTick closeTests passes
     close-low = ltb-true (w .state .closed .0) top (both (ltb (w .state .closed .0) top) true (passes-both (standing w) (lastTick w) g .1) .0)
 
     -- what the close asks from there on

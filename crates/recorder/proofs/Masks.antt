@@ -37,9 +37,10 @@ module _ (ledger : List ℕ) (n wait : ℕ) (closed : Tick) (t : Slots) (i : ℕ
   unfolding spared changedAt
   spared-owed h = rw (eq-eqb _ _ h)
 
-pub spared-unclean : (s : State) (ledger : List ℕ) → spared ledger (s .entries) (wait (s .settings)) (s .closed) (s .slots) ≡ unclean (lent s ledger [] [] [] [])
+pub spared-unclean : (s : State) (ledger : List ℕ) (n ticks : ℕ) → n ≡ s .entries → ticks ≡ wait (s .settings)
+    → spared ledger n ticks (s .closed) (s .slots) ≡ unclean (lent s ledger [] [] [] [])
 unfolding spared unclean entriesOf
-spared-unclean s ledger = refl
+spared-unclean s ledger n ticks e f = rw (e, f)
 
 -- the first i flags are those of f
 abbrev pub Filled : (ℕ → Bool) → List Bool → ℕ → Type 0

@@ -2,7 +2,7 @@
 use Prim.Native.Nat.{ℕ, _+_, _<_, _≤_}
 use mathlib.Core.Path.{_≡_, refl}
 use mathlib.Core.Bool.{Bool, true, false, _||_}
-use mathlib.Core.List.{List, _∷_}
+use mathlib.Core.List.{List, [], _∷_}
 use native.Mathlib.Omega.{arith}
 use native.Mathlib.Numerals.{add-one}
 use lib.Dec.{eqb, ltb}
@@ -13,11 +13,12 @@ use Rattle.lists.specs.Below.{below, all-from}
 use Rattle.lists.specs.Bools.{or-drop}
 use Rattle.lists.specs.Scans.{allOf}
 use Rattle.units.specs.declared.Page.{Page}
+use Rattle.slots.specs.Numbers.{tableOf}
 use Rattle.slots.specs.Rules.{slotRules}
 use Rattle.slots.specs.Sits.{slot-facts}
 use Rattle.slots.specs.Table.{toPage, noPage, pageAt, vacant}
 use Rattle.slots.specs.declared.Slots.{Slots}
-use Rattle.recorder.specs.Seats.{seats, seatBelow, seatFits}
+use Rattle.recorder.specs.Seats.{seatBelow, seatFits}
 
 -- a test of the first n bytes, from i on
 module _ (t : ℕ → Bool) (n : ℕ) (xs : List ℕ) (i : ℕ) where
@@ -45,12 +46,12 @@ module _ (t : ℕ → Bool) (n : ℕ) (xs : List ℕ) (i : ℕ) where
 module _ (kinds : List ℕ) (pages : List Page) (i : ℕ) where
   pub fits-vacant : getD pages i (toPage 0) .0 ≡ noPage → seatFits kinds pages i ≡ true
   unfolding vacant pageAt
-  fits-vacant e = rw (eq-eqb (pageAt (seats pages) i) noPage e)
+  fits-vacant e = rw (eq-eqb (pageAt (tableOf pages []) i) noPage e)
 
   module _ (ne : getD pages i (toPage 0) .0 ≡ noPage → ⊥) where
-    occupied : vacant (seats pages) i ≡ false
+    occupied : vacant (tableOf pages []) i ≡ false
     unfolding vacant pageAt
-    occupied = ne-eqb (pageAt (seats pages) i) noPage ne
+    occupied = ne-eqb (pageAt (tableOf pages []) i) noPage ne
 
     pub fits-kind : (p : ℕ) → p ≡ getD pages i (toPage 0) .0 → seatFits kinds pages i ≡ eqb (getD kinds p 0) 0
     unfolding pageAt
@@ -59,8 +60,8 @@ module _ (kinds : List ℕ) (pages : List Page) (i : ℕ) where
     pub page-low : (S end : ℕ) → allOf (seatBelow end pages) (below S) ≡ true → i < S → getD pages i (toPage 0) .0 < end
     unfolding pageAt
     page-low S end r h =
-        ltb-true (pageAt (seats pages) i) end
-        (or-drop (vacant (seats pages) i) (ltb (pageAt (seats pages) i) end) (all-from (seatBelow end pages) 0 S i (omega arith) (omega arith) r) occupied)
+        ltb-true (pageAt (tableOf pages []) i) end
+        (or-drop (vacant (tableOf pages []) i) (ltb (pageAt (tableOf pages []) i) end) (all-from (seatBelow end pages) 0 S i (omega arith) (omega arith) r) occupied)
 
 -- of a whole table
 module _ (t : Slots) where

@@ -13,15 +13,15 @@ use Rattle.octets.specs.Rows.{page}
 use Rattle.units.specs.Ages.{tick}
 use Rattle.units.specs.Refusals as Refusals
 use Rattle.units.specs.Sizes.{ledgerLength}
-use Rattle.units.specs.Tests.{Test, verdict, tested-passes, refused-by}
+use Rattle.units.specs.Tests.{verdict, tested-passes, refused-by}
 use Rattle.units.specs.declared.Settings.{Settings}
 use Rattle.sidefile.specs.Encode.{headerFor, indexBytes}
 use Rattle.slots.specs.Asked.{seat-table}
 use Rattle.slots.specs.Table.{Seat}
 use Rattle.slots.specs.declared.Slots.{Slots}
-use Rattle.recorder.specs.Calls.{openState, openTests, opened, openReply, spanTests, unclean, Found, hit, miss, nowhere, foundIn, found, hitWorld, missWorld, metaBypass, rawBypass, spanIn, laidIn, readFound, readReply, written, writeFound, writeReply, growTests, grown, zeroPage, growSeated, growReply, seatFor}
+use Rattle.recorder.specs.Calls.{openState, openTests, opened, openReply, unclean, Found, hit, miss, nowhere, foundIn, found, hitWorld, missWorld, metaBypass, rawBypass, spanIn, laidIn, readFound, readReply, written, writeFound, writeReply, grown, zeroPage, growSeated, growReply, seatFor}
 use Rattle.recorder.specs.Outcome.{lent}
-use Rattle.recorder.specs.Rules.{standing}
+use Rattle.recorder.specs.Tests.{accessTests, growthTests}
 use Rattle.recorder.specs.Using.{useOf, Chosen, usedState, changedState, seatedState, broughtTo}
 use Rattle.recorder.specs.World.{World, refuse, accept, setState, setEnd, setSlots, setMeta, setLedger, setBase, setSide, setBuffer, setKinds, addMiss, zeroState, pageSize, slotCount, kindOf, metadata, slotFor, baseBytes}
 use Rattle.recorder.specs.declared.State.{State}
@@ -93,21 +93,18 @@ module _ (w : World) (p k : ℕ) (at : k ≡ p) where
 
 -- read
 module _ (w : World) (p offset : ℕ) (into : List ℕ) where
-  abbrev tests : List Test
-  tests = standing w ++ spanTests w p offset (length into)
-
-  pub read-refused : (n : ℕ) → n ≡ verdict tests → (n ≡ 0 → ⊥) → refuse w into n ≡ readReply p offset into w
+  pub read-refused : (n : ℕ) → n ≡ verdict (accessTests w p offset (length into)) → (n ≡ 0 → ⊥) → refuse w into n ≡ readReply p offset into w
   unfolding readReply
-  read-refused n e ne = sym (refused-by (refuse w into) _ tests n e ne)
+  read-refused n e ne = sym (refused-by (refuse w into) _ (accessTests w p offset (length into)) n e ne)
 
   module _ (a : Access w p offset (length into)) (k : ℕ) (at : k ≡ p) where
     raw-read : metadata w p ≡ false → readReply p offset into w ≡ accept (rawBypass w) (spanIn (pageSize w) (w .base) p offset (length into))
     unfolding readReply
-    raw-read m = tested-passes (refuse w into) _ tests (a .passed) ∙ rw m
+    raw-read m = tested-passes (refuse w into) _ (accessTests w p offset (length into)) (a .passed) ∙ rw m
 
     meta-read : metadata w p ≡ true → readReply p offset into w ≡ readFound w p offset (length into) (found w p)
     unfolding readReply
-    meta-read m = tested-passes (refuse w into) _ tests (a .passed) ∙ rw m
+    meta-read m = tested-passes (refuse w into) _ (accessTests w p offset (length into)) (a .passed) ∙ rw m
 
     pub read-raw : (getD (w .kinds) k 0 ≡ 0 → ⊥)
         → (s : State) → s ≡ rawBypass (lent (w .state) [] [] [] [] []) .state
@@ -134,18 +131,18 @@ module _ (w : World) (p offset : ℕ) (into : List ℕ) where
 
 -- write
 module _ (w : World) (p offset : ℕ) (bs : List ℕ) where
-  pub write-refused : (n : ℕ) → n ≡ verdict (tests w p offset bs) → (n ≡ 0 → ⊥) → refuse w bs n ≡ writeReply p offset bs w
+  pub write-refused : (n : ℕ) → n ≡ verdict (accessTests w p offset (length bs)) → (n ≡ 0 → ⊥) → refuse w bs n ≡ writeReply p offset bs w
   unfolding writeReply
-  write-refused n e ne = sym (refused-by (refuse w bs) _ (tests w p offset bs) n e ne)
+  write-refused n e ne = sym (refused-by (refuse w bs) _ (accessTests w p offset (length bs)) n e ne)
 
   module _ (a : Access w p offset (length bs)) (k : ℕ) (at : k ≡ p) where
     raw-write : metadata w p ≡ false → writeReply p offset bs w ≡ accept (setBase (laidIn (pageSize w) (w .base) p offset bs) (rawBypass w)) bs
     unfolding writeReply
-    raw-write m = tested-passes (refuse w bs) _ (tests w p offset bs) (a .passed) ∙ rw m
+    raw-write m = tested-passes (refuse w bs) _ (accessTests w p offset (length bs)) (a .passed) ∙ rw m
 
     meta-write : metadata w p ≡ true → writeReply p offset bs w ≡ writeFound w p offset bs (found w p)
     unfolding writeReply
-    meta-write m = tested-passes (refuse w bs) _ (tests w p offset bs) (a .passed) ∙ rw m
+    meta-write m = tested-passes (refuse w bs) _ (accessTests w p offset (length bs)) (a .passed) ∙ rw m
 
     pub write-raw : (getD (w .kinds) k 0 ≡ 0 → ⊥)
         → (s : State) → s ≡ rawBypass (lent (w .state) [] [] [] [] []) .state
@@ -175,21 +172,18 @@ module _ (w : World) (p offset : ℕ) (bs : List ℕ) where
 
 -- grow
 module _ (w : World) (kind : ℕ) where
-  abbrev asks : List Test
-  asks = standing w ++ growTests w kind
-
-  pub grow-refused : (n : ℕ) → n ≡ verdict asks → (n ≡ 0 → ⊥) → refuse w [] n ≡ growReply kind w
+  pub grow-refused : (n : ℕ) → n ≡ verdict (growthTests w kind) → (n ≡ 0 → ⊥) → refuse w [] n ≡ growReply kind w
   unfolding growReply
-  grow-refused n e ne = sym (refused-by (refuse w []) _ asks n e ne)
+  grow-refused n e ne = sym (refused-by (refuse w []) _ (growthTests w kind) n e ne)
 
   module _ (g : Growth w kind) (k : ℕ) (at : k ≡ w .state .end) where
     raw-grow : (kind ≡ 0 → ⊥) → growReply kind w ≡ accept (setBase (lay (w .base) (w .state .end * pageSize w) (zeroPage w)) (grown w 1)) []
     unfolding growReply
-    raw-grow n = tested-passes (refuse w []) _ asks (g .passed) ∙ rw (ne-eqb _ _ n)
+    raw-grow n = tested-passes (refuse w []) _ (growthTests w kind) (g .passed) ∙ rw (ne-eqb _ _ n)
 
     meta-grow : kind ≡ 0 → growReply kind w ≡ growSeated w (seatFor w (w .state .end))
     unfolding growReply
-    meta-grow z = tested-passes (refuse w []) _ asks (g .passed) ∙ rw (eq-eqb _ _ z)
+    meta-grow z = tested-passes (refuse w []) _ (growthTests w kind) (g .passed) ∙ rw (eq-eqb _ _ z)
 
     pub grow-raw : (kind ≡ 0 → ⊥)
         → (s : State) → s ≡ setEnd (w .state .end + 1) (w .state)

@@ -1,5 +1,5 @@
 -- The tests of each call: their verdict, as far as they were made. Assumes nothing.
-use Prim.Native.Nat.{ℕ, _+_, _<_, _≤_}
+use Prim.Native.Nat.{ℕ, _<_, _≤_}
 use mathlib.Core.Path.{_≡_, refl, _∙_, sym}
 use mathlib.Core.Bool.{true, false, _&&_}
 use mathlib.Core.List.{List, [], _∷_, _++_}
@@ -9,10 +9,11 @@ use lib.ListN.{length, take, getD}
 use borrow.Author.Tests.{le-leb, lt-leb, le-ltb, lt-ltb}
 use Rattle.lists.specs.Scans.{allOf}
 use Rattle.units.specs.Refusals as Refusals
-use Rattle.units.specs.Sizes.{top, limits, ledgerLength}
+use Rattle.units.specs.Sizes.{top, limits, insidePage, ledgerLength}
 use Rattle.units.specs.Tests.{Test, passes, verdict, verdict-behind, verdict-none}
 use Rattle.units.specs.declared.Settings.{Settings}
 use Rattle.recorder.specs.Calls.{openTests, spanTests, growTests}
+use Rattle.recorder.specs.Close.{closeTests}
 use Rattle.recorder.specs.Facts.{rule-facts, long-facts, stands-facts}
 use Rattle.recorder.specs.Outcome.{lent}
 use Rattle.recorder.specs.Rules.{longEnough, standing}
@@ -89,7 +90,7 @@ module _ (st : State) (ledger base side buffer kinds : List ℕ) (p offset n : �
   span-part = refl
 
 module _ (st : State) (kinds : List ℕ) (p offset n : ℕ) where
-  abbrev spanned : ℕ
+  abbrev pub spanned : ℕ
   spanned = verdict (spanTests (lent st [] [] [] [] kinds) p offset n)
 
   pub page-past : st .end ≤ p → Refusals.page ≡ spanned
@@ -102,21 +103,10 @@ module _ (st : State) (kinds : List ℕ) (p offset n : ℕ) where
     kind-unknown h = rw (lt-ltb p (st .end) a, le-ltb (getD kinds p 0) 2 h)
 
     module _ (b : getD kinds p 0 ≤ 1) where
-      at-span : spanned ≡ verdict ((Refusals.span, leb 1 n && leb (offset + n) (st .settings .size)) ∷ [])
+      -- the test of the span is left
+      pub at-span : spanned ≡ verdict ((Refusals.span, insidePage (st .settings .size) offset n) ∷ [])
       unfolding spanTests verdict
       at-span = rw (lt-ltb p (st .end) a, lt-ltb (getD kinds p 0) 2 (omega arith))
-
-      pub span-empty : n < 1 → Refusals.span ≡ spanned
-      unfolding verdict
-      span-empty h = sym (at-span ∙ rw (lt-leb 1 n h))
-
-      pub span-past : 1 ≤ n → st .settings .size < offset + n → Refusals.span ≡ spanned
-      unfolding verdict
-      span-past h k = sym (at-span ∙ rw (le-leb 1 n h, lt-leb (offset + n) (st .settings .size) k))
-
-      pub span-inside : 1 ≤ n → offset + n ≤ st .settings .size → 0 ≡ spanned
-      unfolding verdict
-      span-inside h k = sym (at-span ∙ rw (le-leb 1 n h, le-leb (offset + n) (st .settings .size) k))
 
 -- Grow.
 
@@ -138,9 +128,9 @@ module _ (w : World) (kind : ℕ) where
 
 module _ (w : World) where
   pub tick-last : top ≤ w .state .closed .0 → Refusals.lastTick ≡ verdict (lastTick w)
-  unfolding lastTick verdict
+  unfolding lastTick closeTests verdict
   tick-last h = rw (le-ltb (w .state .closed .0) top h)
 
   pub tick-good : w .state .closed .0 < top → 0 ≡ verdict (lastTick w)
-  unfolding lastTick verdict
+  unfolding lastTick closeTests verdict
   tick-good h = rw (lt-ltb (w .state .closed .0) top h)

@@ -10,7 +10,7 @@ use Rattle.lists.specs.Scans.{allOf}
 use Rattle.octets.specs.Part.{part, lay}
 use Rattle.units.specs.Ages.{tick}
 use Rattle.units.specs.Refusals as Refusals
-use Rattle.units.specs.Sizes.{top, limits, ledgerLength}
+use Rattle.units.specs.Sizes.{top, limits, insidePage, ledgerLength}
 use Rattle.units.specs.Tests.{Test, tested}
 use Rattle.units.specs.declared.Settings.{Settings}
 use Rattle.sidefile.specs.Encode.{headerFor, indexBytes}
@@ -48,7 +48,7 @@ unfoldable pub spanTests : World → ℕ → ℕ → ℕ → List Test
 spanTests w p offset n =
     (Refusals.page, ltb p (w .state .end))
     ∷ (Refusals.kind, ltb (kindOf w p) 2)
-    ∷ (Refusals.span, leb 1 n && leb (offset + n) (pageSize w))
+    ∷ (Refusals.span, insidePage (pageSize w) offset n)
     ∷ []
 
 -- a slot that may not be chosen: its page is changed or owed

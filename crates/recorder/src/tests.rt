@@ -6,7 +6,7 @@ use units::Page;
 use units::Settings;
 use units::refusal;
 ghost use mathlib.Core.Path.{_≡_};
-ghost use mathlib.Core.List.{[], _++_};
+ghost use mathlib.Core.List.{[]};
 ghost use Prim.Native.Nat.{_≤_};
 ghost use lib.Dec.{ltb};
 ghost use lib.ListN.{length, take};
@@ -14,8 +14,7 @@ ghost use Rattle.lists.specs.Scans.{allOf};
 ghost use Rattle.units.specs.Tests.{verdict};
 ghost use Rattle.recorder.specs.Calls as Calls;
 ghost use Rattle.recorder.specs.Outcome.{lent};
-ghost use Rattle.recorder.specs.Rules.{standing};
-ghost use Rattle.recorder.specs.Tests.{lastTick};
+ghost use Rattle.recorder.specs.Tests.{accessTests, growthTests, earlyTests};
 ghost use Rattle.recorder.specs.World.{zeroState};
 
 const RAW: u8 = 1;
@@ -101,7 +100,7 @@ pub fn accesses(
     offset: u32,
     n: usize,
 ) -> u32
-    ensures { λ r. ⌜ r ≡ verdict (standing (lent state (now (ledger .entry)) (now (base .entry)) (now (side .entry)) (now (buffer .entry)) (now (kinds .entry))) ++ Calls.spanTests (lent state (now (ledger .entry)) (now (base .entry)) (now (side .entry)) (now (buffer .entry)) (now (kinds .entry))) (page .0) offset n) ⌝ }
+    ensures { λ r. ⌜ r ≡ verdict (accessTests (lent state (now (ledger .entry)) (now (base .entry)) (now (side .entry)) (now (buffer .entry)) (now (kinds .entry))) (page .0) offset n) ⌝ }
 {
     let number = judge::stands(state, ledger, base, side, buffer, kinds);
     if number != 0 {
@@ -120,7 +119,7 @@ pub fn grows(
     kinds: &[u8],
     kind: u32,
 ) -> u32
-    ensures { λ r. ⌜ r ≡ verdict (standing (lent state (now (ledger .entry)) (now (base .entry)) (now (side .entry)) (now (buffer .entry)) (now (kinds .entry))) ++ Calls.growTests (lent state (now (ledger .entry)) (now (base .entry)) (now (side .entry)) (now (buffer .entry)) (now (kinds .entry))) kind) ⌝ }
+    ensures { λ r. ⌜ r ≡ verdict (growthTests (lent state (now (ledger .entry)) (now (base .entry)) (now (side .entry)) (now (buffer .entry)) (now (kinds .entry))) kind) ⌝ }
 {
     let number = judge::stands(state, ledger, base, side, buffer, kinds);
     if number != 0 {
@@ -144,7 +143,7 @@ pub fn closes(
     buffer: &[u8],
     kinds: &[u8],
 ) -> u32
-    ensures { λ r. ⌜ r ≡ verdict (standing (lent state (now (ledger .entry)) (now (base .entry)) (now (side .entry)) (now (buffer .entry)) (now (kinds .entry))) ++ lastTick (lent state (now (ledger .entry)) (now (base .entry)) (now (side .entry)) (now (buffer .entry)) (now (kinds .entry)))) ⌝ }
+    ensures { λ r. ⌜ r ≡ verdict (earlyTests (lent state (now (ledger .entry)) (now (base .entry)) (now (side .entry)) (now (buffer .entry)) (now (kinds .entry)))) ⌝ }
 {
     let number = judge::stands(state, ledger, base, side, buffer, kinds);
     if number != 0 {

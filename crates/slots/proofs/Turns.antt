@@ -3,7 +3,7 @@
 use Prim.Native.Nat.{ℕ, suc, _+_, _-_, _<_, _≤_}
 use mathlib.Core.Path.{_≡_, refl, _∙_, sym, ap}
 use mathlib.Core.List.{List, [], _∷_}
-use mathlib.Core.Bool.{Bool, true, false, _&&_}
+use mathlib.Core.Bool.{Bool, true, false}
 use mathlib.Core.Option.{Option, some, none}
 use native.Mathlib.Nat.{sub-zero}
 use native.Mathlib.Numerals.{add-one}
@@ -15,37 +15,26 @@ use lib.Seq.{drop-cons, getD-take, length-take-le}
 use borrow.Author.Tests.{eq-eqb, ne-eqb, lt-ltb, le-ltb}
 use Rattle.lists.specs.Below.{from}
 use Rattle.lists.specs.Passes.{from-here, from-end}
-use Rattle.lists.specs.Scans.{anyOf, allOf, first}
+use Rattle.lists.specs.Scans.{allOf, first}
 use Rattle.units.specs.Pages.{numbersOf}
 use Rattle.units.specs.declared.Page.{Page}
-use Rattle.slots.specs.Table.{toPage, noPage, pageAt, vacant, changedAt, slotOf, changedPage, uses, times, orElse, victimIn, victim}
+use Rattle.slots.specs.Table.{toPage, noPage, pageAt, vacant, changedAt, slotOf, uses, times, orElse, victimIn, victim}
 use Rattle.slots.specs.Judged.{rowKept}
 use Rattle.slots.specs.declared.Slots.{Slots}
 
--- the slot of page p, and whether one with p is changed, from slot i on
+-- the slot of page p, from slot i on
 module _ (S : ℕ) (t : Slots) (p : ℕ) where
   unfoldable pub slotFrom : ℕ → Option ℕ
   slotFrom i = first (λ j. eqb (pageAt t j) p) (from i (S - i))
-
-  unfoldable pub changedFrom : ℕ → Bool
-  changedFrom i = anyOf (λ j. eqb (pageAt t j) p && changedAt t j) (from i (S - i))
 
   pub slot-start : slotOf S t p ≡ slotFrom 0
   unfolding slotOf slotFrom
   slot-start = rw sub-zero
 
-  pub changed-start : changedPage S t p ≡ changedFrom 0
-  unfolding changedPage changedFrom
-  changed-start = rw sub-zero
-
   module _ (i : ℕ) where
     pub slot-end : S ≤ i → slotFrom i ≡ none
     unfolding slotFrom first
     slot-end h = rw (from-end S i h)
-
-    pub changed-end : S ≤ i → changedFrom i ≡ false
-    unfolding changedFrom anyOf
-    changed-end h = rw (from-end S i h)
 
     module _ (h : i < S) where
       pub slot-here : getD (t .pages) i (toPage 0) .0 ≡ p → slotFrom i ≡ some i
@@ -55,18 +44,6 @@ module _ (S : ℕ) (t : Slots) (p : ℕ) where
       pub slot-next : (getD (t .pages) i (toPage 0) .0 ≡ p → ⊥) → slotFrom i ≡ slotFrom (i + 1)
       unfolding slotFrom first pageAt
       slot-next n = rw (from-here S i h, ne-eqb (pageAt t i) p n)
-
-      pub changed-here : getD (t .pages) i (toPage 0) .0 ≡ p → (getD (t .changed) i 0 ≡ 0 → ⊥) → changedFrom i ≡ true
-      unfolding changedFrom anyOf pageAt changedAt
-      changed-here e c = rw (from-here S i h, eq-eqb (pageAt t i) p e, ne-eqb (getD (t .changed) i 0) 0 c)
-
-      pub changed-next : getD (t .pages) i (toPage 0) .0 ≡ p → getD (t .changed) i 0 ≡ 0 → changedFrom i ≡ changedFrom (i + 1)
-      unfolding changedFrom anyOf pageAt changedAt
-      changed-next e c = rw (from-here S i h, eq-eqb (pageAt t i) p e, eq-eqb (getD (t .changed) i 0) 0 c)
-
-      pub changed-other : (getD (t .pages) i (toPage 0) .0 ≡ p → ⊥) → changedFrom i ≡ changedFrom (i + 1)
-      unfolding changedFrom anyOf pageAt
-      changed-other n = rw (from-here S i h, ne-eqb (pageAt t i) p n)
 
 -- the test of one row: empty, past the slots, a slot whose page was counted
 module _ (S : ℕ) (t : Slots) (i : ℕ) where

@@ -20,8 +20,8 @@ abbrev pub noPage : ℕ
 noPage = 4294967295
 
 -- a table by its arrays and the length of its order of use
-abbrev pub tableOf : List Page → List ℕ → List Page → ℕ → Slots
-tableOf pages changed order used = record { pages = pages; changed = changed; order = order; used = used }
+abbrev pub slotsOf : List Page → List ℕ → List Page → ℕ → Slots
+slotsOf pages changed order used = record { pages = pages; changed = changed; order = order; used = used }
 
 -- one setter to a field, or to two that change together
 abbrev pub setPage : ℕ → ℕ → Slots → Slots

@@ -11,7 +11,7 @@ ghost use Rattle.lists.specs.Below.{below};
 ghost use Rattle.lists.specs.Scans.{allOf};
 ghost use Rattle.units.specs.Pages.{numbersOf};
 ghost use Rattle.slots.specs.Table as Table;
-ghost use Rattle.slots.specs.Table.{tableOf};
+ghost use Rattle.slots.specs.Table.{slotsOf};
 ghost use Rattle.slots.specs.Rules.{slotRules};
 ghost use Rattle.slots.specs.Judged.{rowKept, useKept};
 
@@ -42,7 +42,7 @@ fn rows_kept(
     slots: usize,
 ) -> bool
     requires { ⌜ used ≤ 16 ⌝ }
-    ensures { λ r. ⌜ r ≡ allOf (rowKept slots (tableOf pages changed order used)) (below 16) ⌝ }
+    ensures { λ r. ⌜ r ≡ allOf (rowKept slots (slotsOf pages changed order used)) (below 16) ⌝ }
 {
     let mut i: usize = 0;
     while i < 16 {
@@ -91,7 +91,7 @@ pub fn keeps_rules(
     end: u32,
 ) -> bool
     requires { ⌜ slots ≤ 16 ⌝ }
-    ensures { λ r. ⌜ r ≡ slotRules slots end (tableOf pages changed order used) ⌝ }
+    ensures { λ r. ⌜ r ≡ slotRules slots end (slotsOf pages changed order used) ⌝ }
 {
     if 16 < used {
         return false;

@@ -1,6 +1,5 @@
-// What the table answers: the page and the flag of a slot, the slot of a page, the lowest empty slot, the victim. A search
-// looks at the first `slots` of the 16 rows. A close, which asks often, lends its seats as numbers: handed down by value the
-// table would be copied at each step.
+// What the table answers: the slot of a page, the lowest empty slot, the victim. A search looks at the first `slots` of the 16
+// rows. A close, which asks often, lends its seats as numbers: handed down by value the table would be copied at each step.
 use crate::Found;
 use crate::Slots;
 use crate::wide;
@@ -8,27 +7,13 @@ use units::Page;
 ghost use mathlib.Core.Path.{_≡_};
 ghost use mathlib.Core.Bool.{false};
 ghost use mathlib.Core.List.{[]};
-ghost use Prim.Native.Nat.{_≤_, _<_};
+ghost use Prim.Native.Nat.{_≤_};
 ghost use lib.ListN.{length, getD};
 ghost use Rattle.slots.specs.Table as Table;
 ghost use Rattle.slots.specs.Answers.{toOption};
 ghost use Rattle.slots.specs.Numbers.{pagesOf, lentTable};
 
 impl Slots {
-    pub fn page_at(self, slot: usize) -> Page
-        requires { ⌜ slot < 16 ⌝ }
-        ensures { λ r. ⌜ r .0 ≡ Table.pageAt self slot ⌝ }
-    {
-        self.pages[slot]
-    }
-
-    pub fn is_changed(self, slot: usize) -> bool
-        requires { ⌜ slot < 16 ⌝ }
-        ensures { λ r. ⌜ r ≡ Table.changedAt self slot ⌝ }
-    {
-        self.changed[slot] != 0
-    }
-
     pub fn slot_of(self, slots: usize, page: Page) -> Found
         requires { ⌜ slots ≤ 16 ⌝ }
         ensures { λ r. ⌜ toOption r ≡ Table.slotOf slots self (page .0) ⌝ }
@@ -49,23 +34,6 @@ impl Slots {
         ensures { λ r. ⌜ toOption r ≡ Table.lowestEmpty slots self ⌝ }
     {
         self.slot_of(slots, Page(Slots::NO_PAGE))
-    }
-
-    pub fn changed_page(self, slots: usize, page: Page) -> bool
-        requires { ⌜ slots ≤ 16 ⌝ }
-        ensures { λ r. ⌜ r ≡ Table.changedPage slots self (page .0) ⌝ }
-    {
-        let mut i: usize = 0;
-        while i < slots {
-            let held = self.pages[i];
-            if held.0 == page.0 {
-                if self.changed[i] != 0 {
-                    return true;
-                }
-            }
-            i += 1;
-        }
-        false
     }
 
     // The slot used longest ago that `mask` does not spare.

@@ -22,6 +22,19 @@ Inv-loop ledger n wait closed table mask₀ i₀ mask i = (i ≤ 16) × (length 
 abbrev μ-loop : tie.MeasureT-loop
 μ-loop ledger n wait closed table mask₀ i₀ mask i = 16 - i
 
+-- the loop's head, from where a page is looked up; where what the loop asks of each slot was read
+abbrev head : tie.After-owed-page-arg Inv-loop μ-loop → tie.At-loop Inv-loop μ-loop
+head c = c .before .before .before .before
+
+abbrev waited : tie.At-loop Inv-loop μ-loop → tie.After-wait Inv-loop μ-loop
+waited c = c .before .before .before
+
+abbrev counted : tie.At-loop Inv-loop μ-loop → tie.After-wide Inv-loop μ-loop
+counted c = waited c .before .before
+
+abbrev start : tie.At-loop Inv-loop μ-loop → tie.Start Inv-loop μ-loop
+start c = counted c .before .before
+
 wide-requires : tie.Need-wide-requires Inv-loop μ-loop
 wide-requires c κs = search needs
 
@@ -43,10 +56,10 @@ element-copy-out-owed-page c = search needs
 owed-page-requires : tie.Need-owed-page-requires Inv-loop μ-loop
 unfolding entriesOf
 owed-page-requires c κs =
-    let b = c .before .before .before .before .before .before .before .before .before in
-    let s = b .before .before in
+    let l = head c in
+    let s = start l in
     let w = lent (s .args .state) (s .args .ledger .now) [] [] [] [] in
-    rw (b .wide .ensures .0) (entries-long w (s .pre), rule-facts w (s .pre) .ascends)
+    rw (counted l .wide .ensures .0) (entries-long w (s .pre), rule-facts w (s .pre) .ascends)
 
 array-write-mask : tie.Need-array-write-mask Inv-loop μ-loop
 array-write-mask c = search needs
@@ -73,10 +86,10 @@ loop-again c =
 returns : tie.Need-returns Inv-loop μ-loop
 returns c =
     let l = c .before in
-    let s = l .before .before .before .before .before .before .before in
+    let s = start l in
     filled-all (spared _ _ _ _ _) (l .loop .mask) (l .loop .i) (omega arith) (l .loop .inv .1) (l .loop .inv .2)
     ∙ ap (λ (f : ℕ → Bool). map f (below 16))
-    (rw (l .before .before .before .before .before .wide .ensures .0, l .before .before .before .wait .ensures) (spared-unclean (s .args .state) (s .args .ledger .now)))
+    (spared-unclean (s .args .state) (s .args .ledger .now) _ _ (counted l .wide .ensures .0) (waited l .wait .ensures))
 
 pub unclean-slots-spec : {M : Type 1} → statement M
 unclean-slots-spec =

@@ -1,10 +1,9 @@
-use mathlib.Core.List.{_++_}
 use mathlib.Core.Path.{_≡_, _∙_}
 use native.Mathlib.Omega.{arith}
 use Rattle.units.specs.Tests.{verdict, stopped}
 use Rattle.recorder.specs.Outcome.{lent}
 use Rattle.recorder.specs.Rules.{standing}
-use Rattle.recorder.specs.Tests.{lastTick}
+use Rattle.recorder.specs.Tests.{lastTick, earlyTests}
 use Rattle.recorder.specs.World.{World}
 use Rattle.recorder.proofs.Testing.{stands-behind, tick-last, tick-good}
 use borrow.Author.Needs.{needs}
@@ -20,7 +19,7 @@ world c =
     let a = start c .args in
     lent (a .state) (a .ledger .now) (a .base .now) (a .side .now) (a .buffer .now) (a .kinds .now)
 
-behind : (c : tie.Else1) → verdict (lastTick (world (c .before))) ≡ verdict (standing (world (c .before)) ++ lastTick (world (c .before)))
+behind : (c : tie.Else1) → verdict (lastTick (world (c .before))) ≡ verdict (earlyTests (world (c .before)))
 behind c = stands-behind (world (c .before)) (c .before .stands .result) (c .before .stands .ensures) (c .if1 .left) (lastTick (world (c .before)))
 
 stands-requires : tie.Need-stands-requires

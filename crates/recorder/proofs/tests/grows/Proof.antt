@@ -1,9 +1,9 @@
-use mathlib.Core.List.{_++_}
 use mathlib.Core.Path.{_≡_, _∙_}
 use Rattle.units.specs.Tests.{verdict, stopped}
 use Rattle.recorder.specs.Calls.{growTests}
 use Rattle.recorder.specs.Outcome.{lent}
 use Rattle.recorder.specs.Rules.{standing}
+use Rattle.recorder.specs.Tests.{growthTests}
 use Rattle.recorder.specs.World.{World}
 use Rattle.recorder.proofs.Testing.{stands-behind, grow-unknown, grow-full, grow-good}
 use borrow.Author.Needs.{needs}
@@ -20,8 +20,7 @@ world c =
     lent (a .state) (a .ledger .now) (a .base .now) (a .side .now) (a .buffer .now) (a .kinds .now)
 
 behind : (c : tie.Else1)
-    → verdict (growTests (world (c .before)) (start (c .before) .args .kind))
-    ≡ verdict (standing (world (c .before)) ++ growTests (world (c .before)) (start (c .before) .args .kind))
+    → verdict (growTests (world (c .before)) (start (c .before) .args .kind)) ≡ verdict (growthTests (world (c .before)) (start (c .before) .args .kind))
 behind c =
     stands-behind (world (c .before)) (c .before .stands .result) (c .before .stands .ensures) (c .if1 .left) (growTests (world (c .before)) (start (c .before) .args .kind))
 

@@ -8,7 +8,7 @@ use Rattle.lists.specs.Below.{below}
 use Rattle.lists.specs.Maps.{length-mapped}
 use Rattle.lists.specs.Scans.{allOf}
 use Rattle.units.specs.Pages.{numbersOf}
-use Rattle.slots.specs.Table.{tableOf, uses}
+use Rattle.slots.specs.Table.{slotsOf, uses}
 use Rattle.slots.specs.Rules.{slotRules}
 use Rattle.slots.specs.Judged.{rowKept, useKept}
 use Rattle.slots.specs.declared.Slots.{Slots}
@@ -18,7 +18,7 @@ use Rattle.slots.proofs.judge.keeps_rules.Tie as tie
 
 -- the table that is judged
 abbrev table : tie.Start → Slots
-table s = tableOf (s .args .pages) (s .args .changed) (s .args .order) (s .args .used)
+table s = slotsOf (s .args .pages) (s .args .changed) (s .args .order) (s .args .used)
 
 -- the judge's three tests
 counts : (s : tie.Start)

@@ -9,7 +9,7 @@ use Rattle.lists.specs.Below.{below}
 use Rattle.lists.specs.Passes.{allFrom, all-start, all-stop, all-turn, all-end}
 use Rattle.lists.specs.Scans.{allOf}
 use Rattle.slots.specs.Judged.{rowKept}
-use Rattle.slots.specs.Table.{tableOf}
+use Rattle.slots.specs.Table.{slotsOf}
 use Rattle.slots.specs.declared.Slots.{Slots}
 use Rattle.slots.proofs.Turns.{row-empty, row-marked, row-past, row-counted}
 use Rattle.slots.proofs.judge.rows_kept.Statement.{statement}
@@ -17,7 +17,7 @@ use Rattle.slots.proofs.judge.rows_kept.Tie as tie
 
 abbrev Inv-loop : tie.InvT-loop
 Inv-loop order used slots pages changed i₀ i =
-    (i ≤ 16) × (allOf (rowKept slots (tableOf pages changed order used)) (below 16) ≡ allFrom (rowKept slots (tableOf pages changed order used)) 16 i)
+    (i ≤ 16) × (allOf (rowKept slots (slotsOf pages changed order used)) (below 16) ≡ allFrom (rowKept slots (slotsOf pages changed order used)) 16 i)
 
 abbrev μ-loop : tie.MeasureT-loop
 μ-loop order used slots pages changed i₀ i = 16 - i
@@ -30,7 +30,7 @@ abbrev head : tie.After-struct-known Inv-loop μ-loop → Head
 head c = c .before .before .before
 
 abbrev table : Head → Slots
-table l = let a = l .before .args in tableOf (a .t1) (a .t2) (a .order) (a .used)
+table l = let a = l .before .args in slotsOf (a .t1) (a .t2) (a .order) (a .used)
 
 -- a row that fails
 failed : (l : Head) → l .loop .i < 16 → rowKept (l .before .args .slots) (table l) (l .loop .i) ≡ false
