@@ -23,7 +23,7 @@ use Rattle.units.specs.declared.Place.{Place}
 use Rattle.units.specs.declared.Settings.{Settings}
 use Rattle.units.specs.declared.Tick.{Tick}
 use Rattle.sidefile.specs.Encode.{imageSum, checksum}
-use Rattle.slots.specs.Numbers.{lentTable}
+use Rattle.slots.specs.Numbers.{tableOf}
 use Rattle.slots.specs.Sits.{slot-found}
 use Rattle.slots.specs.Table.{toPage, slotOf, pageAt}
 use Rattle.ledger.specs.Entries.{pageOf}
@@ -39,18 +39,18 @@ use Rattle.recorder.specs.declared.stores.Stretch.{Stretch}
 
 -- what the search for a page's slot gives: its stretch
 module _ (s : Settings) (seats : List Page) (p size slots : ℕ) (z : size ≡ s .size) (n : slots ≡ s .slots) where
-  pub stretch-found : (i : ℕ) → slotOf slots (lentTable seats []) p ≡ some i → stretchAt size (some i) ≡ stretchFor (shown s seats []) p
+  pub stretch-found : (i : ℕ) → slotOf slots (tableOf seats []) p ≡ some i → stretchAt size (some i) ≡ stretchFor (shown s seats []) p
   unfolding stretchFor slotFor slotOf pageAt
   stretch-found i e = rw (z, sym e, n)
 
-  pub stretch-none : slotOf slots (lentTable seats []) p ≡ none → stretchAt 0 none ≡ stretchFor (shown s seats []) p
+  pub stretch-none : slotOf slots (tableOf seats []) p ≡ none → stretchAt 0 none ≡ stretchFor (shown s seats []) p
   unfolding stretchFor stretchAt slotFor slotOf pageAt
   stretch-none e = ap (stretchAt (s .size)) (sym e) ∙ rw n
 
-  pub stretch-fits : limits s ≡ true → (i : ℕ) → slotOf slots (lentTable seats []) p ≡ some i → i * size ≤ 65536
+  pub stretch-fits : limits s ≡ true → (i : ℕ) → slotOf slots (tableOf seats []) p ≡ some i → i * size ≤ 65536
   stretch-fits l i e =
       let w = limits-within s l in
-      rw z (pages-most s w i 16 (omega (arith, slot-found slots (lentTable seats []) p i e .0, w .slots-most)))
+      rw z (pages-most s w i 16 (omega (arith, slot-found slots (tableOf seats []) p i e .0, w .slots-most)))
 
 -- what is copied: the answer to where a page lies, and the page buffer
 module _ (s : Settings) (seats : List Page) (buffer : List ℕ) (p : ℕ) (r : Stretch) (e : r ≡ stretchFor (shown s seats []) p) where

@@ -21,7 +21,7 @@ use Rattle.sidefile.specs.Encode.{imageSum}
 use Rattle.sidefile.specs.Judge.{ascending, apart}
 use Rattle.sidefile.specs.Table.{placesFit, all-seen}
 use Rattle.sidefile.specs.declared.IndexEntry.{IndexEntry}
-use Rattle.slots.specs.Numbers.{lentTable}
+use Rattle.slots.specs.Numbers.{tableOf}
 use Rattle.slots.specs.Order.{unless}
 use Rattle.slots.specs.Sits.{slot-facts, changed-not}
 use Rattle.slots.specs.Table.{toPage, pageAt, vacant, changedAt, changedPage}
@@ -149,7 +149,7 @@ pub record Answers (w : World) (N : Tick) (n S wait free stay : ℕ) (p : Lists)
   pub slots : S ≡ slotCount w
   pub waits : wait ≡ waitOf w
   pub most : p .count ≤ 16
-  pub listed : take (p .count) (p .pages) ≡ keep (changedPage S (lentTable (w .state .slots .pages) (w .state .slots .changed))) (below (w .state .end))
+  pub listed : take (p .count) (p .pages) ≡ keep (changedPage S (tableOf (w .state .slots .pages) (w .state .slots .changed))) (below (w .state .end))
   pub freed : free ≡ length (take (p .count) (freeIn (w .state .settings) n N (w .ledger)))
   pub given : take free (p .places) ≡ take (p .count) (freeIn (w .state .settings) n N (w .ledger))
   pub flagged : take n (p .going) ≡ map (retires wait N (among (take (p .count) (p .pages)))) (entriesIn n (w .ledger))

@@ -11,7 +11,7 @@ ghost use Prim.Native.Nat.{_≤_};
 ghost use lib.ListN.{length, getD};
 ghost use Rattle.slots.specs.Table as Table;
 ghost use Rattle.slots.specs.Answers.{toOption};
-ghost use Rattle.slots.specs.Numbers.{pagesOf, lentTable};
+ghost use Rattle.slots.specs.Numbers.{pagesOf, tableOf};
 
 impl Slots {
     pub fn slot_of(self, slots: usize, page: Page) -> Found
@@ -80,7 +80,7 @@ pub fn list_seats(pages: [Page; 16], seats: &mut [u32; 16])
 // As `slot_of`, of seats that are lent.
 pub fn slot_in(seats: &[u32; 16], slots: usize, page: Page) -> Found
     requires { ⌜ slots ≤ 16 ⌝ }
-    ensures { λ r. ⌜ toOption r ≡ Table.slotOf slots (lentTable (pagesOf (now (seats .entry))) []) (page .0) ⌝ }
+    ensures { λ r. ⌜ toOption r ≡ Table.slotOf slots (tableOf (pagesOf (now (seats .entry))) []) (page .0) ⌝ }
 {
     let mut i: usize = 0;
     while i < slots {

@@ -5,7 +5,7 @@ use native.Mathlib.Omega.{arith}
 use borrow.Author.Needs.{needs}
 use Rattle.units.specs.Bounds.{limits-within}
 use Rattle.slots.specs.Answers.{toOption}
-use Rattle.slots.specs.Numbers.{pagesOf, lentTable}
+use Rattle.slots.specs.Numbers.{pagesOf, tableOf}
 use Rattle.slots.specs.Table.{slotOf}
 use Rattle.recorder.specs.Stretches.{stretchAt}
 use Rattle.recorder.proofs.Copying.{stretch-found, stretch-none, stretch-fits}
@@ -22,7 +22,7 @@ none c = c .before .before
 abbrev start : tie.After-slot-in → tie.Start
 start c = c .before .before .before
 
-sits : (c : tie.After-known-told) → slotOf (found c .before .wide2 .result) (lentTable (pagesOf (start (found c) .args .seats .now)) []) (start (found c) .args .page .0) ≡ some (c .before .i .given .0 .0)
+sits : (c : tie.After-known-told) → slotOf (found c .before .wide2 .result) (tableOf (pagesOf (start (found c) .args .seats .now)) []) (start (found c) .args .page .0) ≡ some (c .before .i .given .0 .0)
 sits c = sym (found c .slot-in .ensures) ∙ ap toOption (c .before .i .given .1)
 
 wide-requires : tie.Need-wide-requires
