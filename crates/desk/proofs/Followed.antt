@@ -7,18 +7,19 @@ use native.Mathlib.Omega.{arith}
 use lib.Dec.{eqb, leb}
 use lib.ListN.{length}
 use borrow.Author.Tests.{eqb-true, eq-eqb, leb-true}
-use Rattle.lists.specs.Bools.{both}
+use Rattle.lists.specs.laws.Bools.{both}
 use Rattle.lists.specs.Scans.{allOf}
-use Rattle.units.specs.Bounds.{limits-within, firstImage-least}
+use Rattle.units.specs.laws.Bounds.{limits-within, firstImage-least}
 use Rattle.units.specs.Refusals as Refusals
 use Rattle.units.specs.Sizes.{headerLength, indexRow, indexEnd, sideLength}
-use Rattle.units.specs.Tests.{passes, verdict, passes-both, verdict-behind, verdict-none, stopped}
+use Rattle.units.specs.Tests.{passes, verdict}
+use Rattle.units.specs.laws.Tests.{passes-both, verdict-behind, verdict-none, stopped}
 use Rattle.units.specs.declared.Settings.{Settings}
 use Rattle.sidefile.specs.Encode.{headerOf}
 use Rattle.sidefile.specs.Judge.{markTests, headerTests, indexTests, wholeTests, frontTests, heldTests, reaches, holds}
-use Rattle.sidefile.specs.Passed.{AllPassed, Indexed, held-passed, front-passed, whole-passed, front-accepted, whole-accepted}
+use Rattle.sidefile.specs.inner.Passed.{AllPassed, Indexed, held-passed, front-passed, whole-passed, front-accepted, whole-accepted}
 use Rattle.sidefile.specs.declared.Header.{Header}
-use Rattle.desk.specs.Follow.{sideTests, pairTests, followTests}
+use Rattle.desk.specs.inner.Follow.{sideTests, pairTests, followTests}
 use Rattle.desk.specs.Read.{spanTests, readTests}
 use Rattle.desk.specs.Take.{sameSettings, refreshTests}
 

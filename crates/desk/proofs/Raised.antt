@@ -9,20 +9,24 @@ use lib.Dec.{eqb, ltb}
 use lib.ListN.{length, drop, getD, set, replicate, length-append, length-drop, length-map, length-replicate, length-set, getD-replicate, List·getD-append}
 use lib.Seq.{ext-getD, getD-append-add, getD-drop, getD-set-same, getD-set-other}
 use borrow.Author.Tests.{eqb-true, eqb-false, ne-eqb, lt-ltb, le-ltb}
-use Rattle.lists.specs.Below.{below, length-from, get-from}
-use Rattle.lists.specs.Bools.{if-then, and-left}
-use Rattle.lists.specs.Scans.{Every, anyOf, none-any, every-map}
-use Rattle.octets.specs.Part.{lay, length-lay, lay-zero, getD-lay-after}
+use Rattle.lists.specs.Below.{below}
+use Rattle.lists.specs.laws.Below.{length-from, get-from}
+use Rattle.lists.specs.Bools.{if-then}
+use Rattle.lists.specs.laws.Bools.{and-left}
+use Rattle.lists.specs.Scans.{Every, anyOf}
+use Rattle.lists.specs.laws.Scans.{none-any, every-map}
+use Rattle.octets.specs.Part.{lay}
+use Rattle.octets.specs.laws.Part.{length-lay, lay-zero, getD-lay-after}
 use Rattle.octets.specs.Rows.{row}
 use Rattle.units.specs.Sizes.{headerLength, indexRow}
 use Rattle.units.specs.declared.Tick.{Tick}
 use Rattle.sidefile.specs.Encode.{headerOf, indexEntryOf, indexOf}
 use Rattle.sidefile.specs.Judge.{reaches}
-use Rattle.sidefile.specs.Passed.{AllPassed}
-use Rattle.sidefile.specs.Table.{column, entriesAt, index-entries, entry-next, entries-end}
+use Rattle.sidefile.specs.inner.Passed.{AllPassed}
+use Rattle.sidefile.specs.inner.Table.{column, entriesAt, index-entries, entry-next, entries-end}
 use Rattle.sidefile.specs.declared.Header.{Header}
 use Rattle.sidefile.specs.declared.IndexEntry.{IndexEntry}
-use Rattle.desk.specs.Marks.{Markable}
+use Rattle.desk.specs.inner.Marks.{Markable}
 use Rattle.desk.specs.Take.{markOf}
 use Rattle.desk.proofs.Followed.{rows-fit, whole-indexed}
 use Rattle.desk.proofs.Scans.{every-at}

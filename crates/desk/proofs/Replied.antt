@@ -10,11 +10,12 @@ use Rattle.lists.specs.Below.{below}
 use Rattle.octets.specs.Part.{part, lay}
 use Rattle.units.specs.Refusals as Refusals
 use Rattle.units.specs.Sizes.{indexEnd}
-use Rattle.units.specs.Tests.{Test, passes, verdict, tested, refused-before, refused-last, accepted-last}
+use Rattle.units.specs.Tests.{Test, passes, verdict, tested}
+use Rattle.units.specs.laws.Tests.{refused-before, refused-last, accepted-last}
 use Rattle.sidefile.specs.Encode.{headerOf, indexOf}
 use Rattle.sidefile.specs.Judge.{wholeTests}
 use Rattle.sidefile.specs.declared.Header.{Header}
-use Rattle.desk.specs.Follow.{followTests}
+use Rattle.desk.specs.inner.Follow.{followTests}
 use Rattle.desk.specs.Outcome.{TakeDone, RefreshDone}
 use Rattle.desk.specs.Take.{Taken, untaken, heldLength, taken, takeTests, takeReply, markOf, marksAfter, refreshReply}
 use Rattle.desk.proofs.Followed.{refresh-tests}

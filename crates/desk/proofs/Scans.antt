@@ -7,9 +7,10 @@ use mathlib.Core.Path.{_≡_, refl, subst}
 use native.Mathlib.Omega.{arith}
 use lib.ListN.{length, drop}
 use Rattle.lists.specs.Bools.{if-then}
-use Rattle.lists.specs.Maps.{every-drop}
-use Rattle.lists.specs.Scans.{Every, head, first}
-use Rattle.sidefile.specs.Table.{position}
+use Rattle.lists.specs.laws.Maps.{every-drop}
+use Rattle.lists.specs.Scans.{Every, first}
+use Rattle.lists.specs.laws.Scans.{head}
+use Rattle.sidefile.specs.inner.Table.{position}
 
 pub first-at : {A : Type 0} (t : A → Bool) (l : List A) (i : ℕ) (x : A) (r : List A) → i ≡ position t l → drop i l ≡ x ∷ r → first t l ≡ some x
 unfolding first position

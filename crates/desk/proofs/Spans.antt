@@ -10,26 +10,30 @@ use lib.Dec.{eqb, ltb, leb}
 use lib.ListN.{length, take, drop}
 use denote.Ref.{RefT}
 use borrow.Author.Tests.{leb-true, ltb-true, le-leb, lt-leb, le-ltb, lt-ltb, eq-eqb, ne-eqb}
-use Rattle.lists.specs.Bools.{if-then, both}
+use Rattle.lists.specs.Bools.{if-then}
+use Rattle.lists.specs.laws.Bools.{both}
 use Rattle.lists.specs.Scans.{Every, allOf, first}
-use Rattle.octets.specs.Part.{part, part-none}
-use Rattle.octets.specs.Rows.{row, row-in}
+use Rattle.octets.specs.Part.{part}
+use Rattle.octets.specs.laws.Part.{part-none}
+use Rattle.octets.specs.Rows.{row}
+use Rattle.octets.specs.laws.Rows.{row-in}
 use Rattle.lookup3.specs.Hash.{hashlittle}
 use Rattle.units.specs.Refusals as Refusals
 use Rattle.units.specs.Sizes.{headerLength, indexRow, limits, insidePage, places, imageAt, sideLength}
-use Rattle.units.specs.Tests.{Test, passes, verdict, tested-passes, passes-both, verdict-behind, verdict-none, stopped, refused-by}
+use Rattle.units.specs.Tests.{Test, passes, verdict}
+use Rattle.units.specs.laws.Tests.{tested-passes, passes-both, verdict-behind, verdict-none, stopped, refused-by}
 use Rattle.units.specs.declared.Place.{Place}
 use Rattle.units.specs.declared.Settings.{Settings}
 use Rattle.sidefile.specs.Encode.{checksum, imageSum, headerOf, indexEntryOf, indexOf}
 use Rattle.sidefile.specs.Judge.{markTests, headerTests, frontTests}
-use Rattle.sidefile.specs.Passed.{front-passed}
-use Rattle.sidefile.specs.Table.{ofPage, position, entriesAt, index-entries, entry-next, length-entriesAt}
+use Rattle.sidefile.specs.inner.Passed.{front-passed}
+use Rattle.sidefile.specs.inner.Table.{ofPage, position, entriesAt, index-entries, entry-next, length-entriesAt}
 use Rattle.sidefile.specs.declared.Header.{Header}
 use Rattle.sidefile.specs.declared.IndexEntry.{IndexEntry}
-use Rattle.desk.specs.Follow.{sideTests, followTests}
+use Rattle.desk.specs.inner.Follow.{sideTests, followTests}
 use Rattle.desk.specs.Outcome.{Handed}
 use Rattle.desk.specs.Read.{Answer, refused, spanTests, readTests, heldEntry, located, deskRead}
-use Rattle.desk.specs.Span.{span, noSpan, baseSpan, imageSpan, Locates}
+use Rattle.desk.specs.inner.Span.{span, noSpan, baseSpan, imageSpan, Locates}
 use Rattle.desk.specs.declared.locate.Found.{Found}
 use Rattle.desk.proofs.Followed.{Followed, followed, read-tests}
 use Rattle.desk.proofs.Scans.{first-at, first-past, every-at}

@@ -1,8 +1,6 @@
-pub mod Follow
-pub mod Marks
-pub mod OneOutcome
 pub mod Outcome
 pub mod Part
 pub mod Read
-pub mod Span
 pub mod Take
+pub mod inner
+pub mod laws

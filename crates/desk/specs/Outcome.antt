@@ -1,5 +1,5 @@
 -- What a call leaves: the answer, the bytes of every slice that it may write, and the part that a read hands out. Each is a
--- single outcome (specs/OneOutcome).
+-- single outcome (specs/laws/OneOutcome).
 use Prim.Native.Nat.{ℕ, _+_}
 use mathlib.Core.List.{List}
 use mathlib.Core.Path.{_≡_}

@@ -6,7 +6,7 @@ use units::Settings;
 use units::refusal;
 ghost use mathlib.Core.Path.{_≡_};
 ghost use Rattle.units.specs.Tests.{verdict};
-ghost use Rattle.desk.specs.Follow.{sideTests, followTests};
+ghost use Rattle.desk.specs.inner.Follow.{sideTests, followTests};
 ghost use Rattle.desk.specs.Take.{sameSettings, withinLag};
 
 fn same_settings(held: Settings, side: Settings) -> bool

@@ -15,7 +15,7 @@ ghost use lib.ListN as ListN;
 ghost use Rattle.units.specs.Sizes.{limits, imageAt};
 ghost use Rattle.units.specs.Tests.{verdict};
 ghost use Rattle.desk.specs.Read.{spanTests, readTests, deskRead};
-ghost use Rattle.desk.specs.Span.{noSpan, baseSpan, imageSpan, Locates};
+ghost use Rattle.desk.specs.inner.Span.{noSpan, baseSpan, imageSpan, Locates};
 
 pub const BASE: u32 = 0;
 

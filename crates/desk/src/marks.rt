@@ -10,7 +10,7 @@ ghost use mathlib.Core.List.{_++_, map};
 ghost use lib.ListN.{drop};
 ghost use Rattle.lists.specs.Below.{below};
 ghost use Rattle.sidefile.specs.Encode.{indexOf};
-ghost use Rattle.desk.specs.Marks.{Markable};
+ghost use Rattle.desk.specs.inner.Marks.{Markable};
 ghost use Rattle.desk.specs.Take.{markOf};
 
 // One pass over the pages and one over the entries.

@@ -1,7 +1,7 @@
 // Leaf functions over the C boundary, for the measurements alone: no part of the library that C programs link.
 // Each takes any numbers, and does nothing where what it would touch does not lie inside the slices.
 ghost use mathlib.Core.Path.{_≡_};
-ghost use Rattle.leaves.specs.Guarded.{copied};
+ghost use Rattle.leaves.specs.inner.Guarded.{copied};
 
 // octets::copy where both parts fit.
 #[no_mangle]

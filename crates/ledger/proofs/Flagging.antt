@@ -8,23 +8,23 @@ use native.Mathlib.Omega.{arith}
 use lib.Dec.{eqb}
 use lib.ListN.{length, take, set, getD, getElem?, replicate, length-map, length-replicate}
 use lib.Seq.{take-at, take-suc, take-suc-set, take-set-lt, set-at, set-out, length-take-le}
-use Rattle.lists.specs.Bools.{or-no, or-assoc}
-use Rattle.lists.specs.Maps.{map-append, any-snoc}
+use Rattle.lists.specs.laws.Bools.{or-no, or-assoc}
+use Rattle.lists.specs.laws.Maps.{map-append, any-snoc}
 use Rattle.lists.specs.Scans.{anyOf}
-use Rattle.octets.specs.Flags.{flags}
-use Rattle.octets.specs.Flagging.{length-flags}
+use Rattle.octets.specs.inner.Flags.{flags}
+use Rattle.octets.specs.laws.Flagging.{length-flags}
 use Rattle.octets.specs.Rows.{row}
 use Rattle.units.specs.Sizes.{entryRow}
 use Rattle.units.specs.declared.Tick.{Tick}
 use Rattle.sidefile.specs.Judge.{ascending}
-use Rattle.sidefile.specs.Table.{position}
+use Rattle.sidefile.specs.inner.Table.{position}
 use Rattle.ledger.specs.declared.Entry.{Entry}
 use Rattle.ledger.specs.View.{indexed, entryOf, entriesIn}
 use Rattle.ledger.specs.Entries.{pageOf, has, find, retires, enteredOr}
-use Rattle.ledger.specs.Changed.{among, isOld, entryTicks, retires-old, mark-page}
-use Rattle.ledger.specs.Search.{find-get}
-use Rattle.ledger.specs.Read.{entry-last, entries-whole}
-use Rattle.ledger.specs.Rowed.{length-entriesIn}
+use Rattle.ledger.specs.inner.Changed.{among, isOld, entryTicks, retires-old, mark-page}
+use Rattle.ledger.specs.inner.Search.{find-get}
+use Rattle.ledger.specs.laws.Read.{entry-last, entries-whole}
+use Rattle.ledger.specs.laws.Rowed.{length-entriesIn}
 
 -- how long a table of flags is of which none is set
 pub table-bytes : (s : List ℕ) (n : ℕ) → flags s ≡ replicate n false → 8 * length s ≡ n

@@ -8,14 +8,14 @@ use native.Mathlib.Numerals.{add-one}
 use lib.ListN.{length, take, set, getD, length-take}
 use lib.Seq.{take-nil, take-suc-set}
 use Rattle.lists.specs.Below.{from, below}
-use Rattle.lists.specs.Bools.{and-make, and-left, and-right}
+use Rattle.lists.specs.laws.Bools.{and-make, and-left, and-right}
 use Rattle.lists.specs.Scans.{keep, anyOf}
 use Rattle.units.specs.declared.Settings.{Settings}
 use Rattle.units.specs.declared.Tick.{Tick}
 use Rattle.ledger.specs.declared.Entry.{Entry}
 use Rattle.ledger.specs.Entries.{at, isReusable}
-use Rattle.ledger.specs.Placed.{resting}
-use Rattle.ledger.specs.Tables.{heldBy, may-give, table-get}
+use Rattle.ledger.specs.inner.Placed.{resting}
+use Rattle.ledger.specs.inner.Tables.{heldBy, may-give, table-get}
 
 module _ (f : ℕ → Bool) (m wanted : ℕ) where
   -- the places found before q, and what is left to find

@@ -5,18 +5,20 @@ use mathlib.Core.List.{List, [], _∷_, _++_, map, append-nil}
 use native.Mathlib.Omega.{arith}
 use lib.ListN.{length, take, drop, replicate, length-map}
 use lib.Seq.{take-take, take-at, length-take-le}
-use Rattle.lists.specs.Maps.{map-append}
+use Rattle.lists.specs.laws.Maps.{map-append}
 use Rattle.octets.specs.Number.{Octets, bytes32}
-use Rattle.octets.specs.Part.{part, lay, lay-nil, lay-next, length-part}
-use Rattle.octets.specs.Rows.{row, join, join-append}
+use Rattle.octets.specs.Part.{part, lay}
+use Rattle.octets.specs.laws.Part.{lay-nil, lay-next, length-part}
+use Rattle.octets.specs.Rows.{row, join}
+use Rattle.octets.specs.laws.Rows.{join-append}
 use Rattle.units.specs.Sizes.{headerLength, indexRow, entryRow, entries, indexEnd}
 use Rattle.units.specs.declared.Settings.{Settings}
 use Rattle.sidefile.specs.Encode.{indexRowOf, indexRows, indexBytes}
-use Rattle.sidefile.specs.Lengths.{length-indexRowOf, length-indexRows}
+use Rattle.sidefile.specs.laws.Lengths.{length-indexRowOf, length-indexRows}
 use Rattle.ledger.specs.declared.Entry.{Entry}
 use Rattle.ledger.specs.View.{indexed, entryOf, entryRowOf, entriesIn}
-use Rattle.ledger.specs.Rowed.{row-written, octets-take, octets-drop, length-entriesIn}
-use Rattle.ledger.specs.Read.{entry-last, entries-whole}
+use Rattle.ledger.specs.laws.Rowed.{row-written, octets-take, octets-drop, length-entriesIn}
+use Rattle.ledger.specs.laws.Read.{entry-last, entries-whole}
 
 module _ (xs : List ℕ) (n : ℕ) (side : List ℕ) where
   -- the side file with the index of the first i entries

@@ -7,22 +7,24 @@ use native.Mathlib.Omega.{arith}
 use lib.Dec.{eqb, leb}
 use lib.ListN.{drop, getD}
 use borrow.Author.Tests.{ne-eqb, le-leb, lt-leb}
-use Rattle.lists.specs.Below.{below, every-from}
-use Rattle.lists.specs.Bools.{and-make, and-left, and-right, or-right, not-both, false-of}
-use Rattle.lists.specs.Maps.{all-same}
-use Rattle.lists.specs.Scans.{anyOf, allOf, every-map}
+use Rattle.lists.specs.Below.{below}
+use Rattle.lists.specs.laws.Below.{every-from}
+use Rattle.lists.specs.laws.Bools.{and-make, and-left, and-right, or-right, not-both, false-of}
+use Rattle.lists.specs.laws.Maps.{all-same}
+use Rattle.lists.specs.Scans.{anyOf, allOf}
+use Rattle.lists.specs.laws.Scans.{every-map}
 use Rattle.octets.specs.Rows.{row}
 use Rattle.units.specs.Sizes.{entryRow, placeRow, places, placesAt, wait}
 use Rattle.units.specs.declared.Settings.{Settings}
 use Rattle.units.specs.declared.Tick.{Tick}
-use Rattle.sidefile.specs.Table.{column, pagesFit, placesFit}
+use Rattle.sidefile.specs.inner.Table.{column, pagesFit, placesFit}
 use Rattle.ledger.specs.declared.Entry.{Entry}
 use Rattle.ledger.specs.View.{indexed, entryOf, entriesIn, placeRowAt, retired, retiredAt}
 use Rattle.ledger.specs.Entries.{pageOf, at, isOwed}
 use Rattle.ledger.specs.Rules.{ledgerRules}
-use Rattle.ledger.specs.Fits.{ticksFit, placeFits, fits-pages, fits-ticks, fits-places, fits-retired, fits-all}
-use Rattle.ledger.specs.Read.{entry-next, entries-end}
-use Rattle.ledger.specs.Tables.{heldBy, table-get}
+use Rattle.ledger.specs.inner.Fits.{ticksFit, placeFits, fits-pages, fits-ticks, fits-places, fits-retired, fits-all}
+use Rattle.ledger.specs.laws.Read.{entry-next, entries-end}
+use Rattle.ledger.specs.inner.Tables.{heldBy, table-get}
 
 -- A pass over entries.
 

@@ -10,26 +10,29 @@ use lib.Seq.{length-take-le}
 use borrow.Author.Tests.{ne-eqb}
 use Rattle.lists.specs.Below.{from, below}
 use Rattle.lists.specs.Bools.{if-then}
-use Rattle.lists.specs.Maps.{map-append, any-snoc}
-use Rattle.lists.specs.Passes.{below-snoc}
+use Rattle.lists.specs.laws.Maps.{map-append, any-snoc}
+use Rattle.lists.specs.laws.Passes.{below-snoc}
 use Rattle.lists.specs.Scans.{anyOf}
-use Rattle.octets.specs.Number.{bytes32, length-bytes}
-use Rattle.octets.specs.Part.{part, lay, lay-nil, lay-next, lay-part, part-lay-after}
-use Rattle.octets.specs.Rows.{row, join, join-append, length-row}
+use Rattle.octets.specs.Number.{bytes32}
+use Rattle.octets.specs.laws.Number.{length-bytes}
+use Rattle.octets.specs.Part.{part, lay}
+use Rattle.octets.specs.laws.Part.{lay-nil, lay-next, lay-part, part-lay-after}
+use Rattle.octets.specs.Rows.{row, join}
+use Rattle.octets.specs.laws.Rows.{join-append, length-row}
 use Rattle.units.specs.Ages as Ages
 use Rattle.units.specs.Ages.{tick}
 use Rattle.units.specs.Sizes.{entryRow, placeRow, places, placesAt, ledgerLength, wait}
 use Rattle.units.specs.declared.Settings.{Settings}
 use Rattle.units.specs.declared.Tick.{Tick}
-use Rattle.sidefile.specs.Table.{column}
+use Rattle.sidefile.specs.inner.Table.{column}
 use Rattle.ledger.specs.declared.Entry.{Entry}
 use Rattle.ledger.specs.View.{entryOf, entriesIn, placeRowAt, retired, retiredAt, retiredRow, freeRow}
 use Rattle.ledger.specs.Entries.{placeOf, at}
-use Rattle.ledger.specs.Placed.{resting}
-use Rattle.ledger.specs.Rowed.{length-entriesIn}
-use Rattle.ledger.specs.Read.{entry-last}
-use Rattle.ledger.specs.Flagged.{picked, picked-snoc}
-use Rattle.ledger.specs.Tables.{heldBy, placeTable, rowAfter, rowsAfter, table-none, table-mark}
+use Rattle.ledger.specs.inner.Placed.{resting}
+use Rattle.ledger.specs.laws.Rowed.{length-entriesIn}
+use Rattle.ledger.specs.laws.Read.{entry-last}
+use Rattle.ledger.specs.inner.Flagged.{picked, picked-snoc}
+use Rattle.ledger.specs.inner.Tables.{heldBy, placeTable, rowAfter, rowsAfter, table-none, table-mark}
 
 -- Tables by place.
 

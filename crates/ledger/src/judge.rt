@@ -16,12 +16,12 @@ ghost use lib.Dec.{eqb};
 ghost use lib.ListN.{length, getD};
 ghost use Rattle.lists.specs.Below.{below};
 ghost use Rattle.lists.specs.Scans.{Every, allOf};
-ghost use Rattle.octets.specs.Flags.{flags};
+ghost use Rattle.octets.specs.inner.Flags.{flags};
 ghost use Rattle.units.specs.Sizes as Sizes;
 ghost use Rattle.units.specs.Sizes.{entryRow, limits, ledgerLength};
 ghost use Rattle.ledger.specs.Entries.{pageOf};
-ghost use Rattle.ledger.specs.Fits as Fits;
-ghost use Rattle.ledger.specs.Fits.{ticksFit, placeFits};
+ghost use Rattle.ledger.specs.inner.Fits as Fits;
+ghost use Rattle.ledger.specs.inner.Fits.{ticksFit, placeFits};
 ghost use Rattle.ledger.specs.Rules.{ledgerRules};
 ghost use Rattle.ledger.specs.View.{entriesIn};
 

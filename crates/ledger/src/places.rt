@@ -13,16 +13,16 @@ ghost use Prim.Native.Nat.{_≤_, _<_, _+_, _*_};
 ghost use lib.ListN.{length, take, replicate};
 ghost use Rattle.lists.specs.Below.{below};
 ghost use Rattle.lists.specs.Scans.{Every};
-ghost use Rattle.octets.specs.Flags.{flags};
+ghost use Rattle.octets.specs.inner.Flags.{flags};
 ghost use Rattle.octets.specs.Part.{lay};
 ghost use Rattle.octets.specs.Rows.{join};
 ghost use Rattle.units.specs.Sizes as Sizes;
 ghost use Rattle.units.specs.Sizes.{entryRow, placeRow, limits, placesAt, ledgerLength};
-ghost use Rattle.sidefile.specs.Table.{placesFit};
+ghost use Rattle.sidefile.specs.inner.Table.{placesFit};
 ghost use Rattle.ledger.specs.Entries.{placeOf};
-ghost use Rattle.ledger.specs.Flagged.{picked};
-ghost use Rattle.ledger.specs.Placed.{resting};
-ghost use Rattle.ledger.specs.Tables.{heldBy, freeIn, rowAfter, rowsAfter};
+ghost use Rattle.ledger.specs.inner.Flagged.{picked};
+ghost use Rattle.ledger.specs.inner.Placed.{resting};
+ghost use Rattle.ledger.specs.inner.Tables.{heldBy, freeIn, rowAfter, rowsAfter};
 ghost use Rattle.ledger.specs.View.{indexed, entriesIn};
 
 // The places of the entries in the marked rows.

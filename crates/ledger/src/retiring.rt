@@ -11,12 +11,12 @@ ghost use mathlib.Core.Bool.{true, false};
 ghost use mathlib.Core.List.{map};
 ghost use Prim.Native.Nat.{_≤_, _<_, _+_, _*_};
 ghost use lib.ListN.{length, take, replicate, getElem?};
-ghost use Rattle.octets.specs.Flags.{flags};
+ghost use Rattle.octets.specs.inner.Flags.{flags};
 ghost use Rattle.units.specs.Sizes.{entryRow};
 ghost use Rattle.sidefile.specs.Judge.{ascending};
 ghost use Rattle.ledger.specs.Entries.{retires, enteredOr};
 ghost use Rattle.ledger.specs.View.{indexed, entriesIn};
-ghost use Rattle.ledger.specs.Changed.{among, isOld, entryTicks};
+ghost use Rattle.ledger.specs.inner.Changed.{among, isOld, entryTicks};
 
 // Flags the rows that leave unless their page is changed. No flag is set at first.
 fn old_rows(s: &[u8], n: usize, wait: u32, tick: Tick, old: &mut [u8])

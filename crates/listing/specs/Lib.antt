@@ -1,7 +1,4 @@
 pub mod Decimal
 pub mod Text
-pub mod Judged
-pub mod Written
-pub mod Kept
-pub mod Whole
-pub mod Encoded
+pub mod inner
+pub mod laws

@@ -10,9 +10,9 @@ use sidefile::layout;
 use sidefile::wide;
 ghost use Prim.Native.Nat.{_≤_, min};
 ghost use lib.ListN.{length, take};
-ghost use Rattle.sidefile.specs.Passed.{mostFront};
+ghost use Rattle.sidefile.specs.inner.Passed.{mostFront};
 ghost use Rattle.listing.specs.Text.{listing, mostText};
-ghost use Rattle.listing.specs.Written.{Written};
+ghost use Rattle.listing.specs.inner.Written.{Written};
 
 // How long a text gets: a first line of at most 50 bytes and 144 lines of at most 33.
 pub const MOST_TEXT: usize = 4802;

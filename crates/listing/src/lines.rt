@@ -10,9 +10,9 @@ ghost use lib.ListN.{length};
 ghost use Rattle.octets.specs.Rows.{row};
 ghost use Rattle.units.specs.Sizes.{headerLength, indexRow};
 ghost use Rattle.sidefile.specs.Encode.{indexEntryOf};
-ghost use Rattle.sidefile.specs.Table.{entriesAt};
+ghost use Rattle.sidefile.specs.inner.Table.{entriesAt};
 ghost use Rattle.listing.specs.Text.{headLine, entryLine, entryLines, refusedLine};
-ghost use Rattle.listing.specs.Written.{Written};
+ghost use Rattle.listing.specs.inner.Written.{Written};
 
 // All that is printed of a refused file.
 pub fn put_refused(out: &mut [u8], number: u32) -> usize

@@ -1,5 +1,4 @@
 pub mod Below
 pub mod Bools
-pub mod Maps
-pub mod Passes
 pub mod Scans
+pub mod laws

@@ -1,5 +1,5 @@
-pub mod Part
 pub mod Number
+pub mod Part
 pub mod Rows
-pub mod Flags
-pub mod Flagging
+pub mod inner
+pub mod laws

@@ -9,26 +9,27 @@ use native.Mathlib.Omega.{arith}
 use lib.ListN.{length}
 use Rattle.octets.specs.Number.{Octets}
 use Rattle.units.specs.Sizes.{top, indexEnd, sideLength}
-use Rattle.units.specs.Tests.{passes, passes-both, tested-accepted}
+use Rattle.units.specs.Tests.{passes}
+use Rattle.units.specs.laws.Tests.{passes-both, tested-accepted}
 use Rattle.units.specs.declared.Settings.{Settings}
 use Rattle.sidefile.specs.Encode.{indexOf}
-use Rattle.slots.specs.Sits.{Whole}
-use Rattle.ledger.specs.Rowed.{small-entriesIn}
+use Rattle.slots.specs.laws.Sits.{Whole}
+use Rattle.ledger.specs.laws.Rowed.{small-entriesIn}
 use Rattle.ledger.specs.View.{indexed}
-use Rattle.recorder.specs.Asked.{numbered-span, numbered-grow}
+use Rattle.recorder.specs.laws.Asked.{numbered-span, numbered-grow}
 use Rattle.recorder.specs.World.{World, refuse, entriesOf}
 use Rattle.recorder.specs.Rules.{rules, kindRules, standing}
 use Rattle.recorder.specs.Calls.{spanTests, growTests, openReply, readReply, writeReply, growReply}
 use Rattle.recorder.specs.Close.{closed, closeTests, closeReply}
 use Rattle.recorder.specs.Runs.{Call, read, write, grow, close, reply}
 use Rattle.desk.specs.Take.{Taken, takeReply}
-use Rattle.promises.specs.CloseWay.{Closes, close-accepted}
-use Rattle.recorder.specs.Closed.{side-length-closed}
-use Rattle.promises.specs.ClosedRules.{front-closed, encodes-closed}
-use Rattle.recorder.specs.Facts.{Ruled, passes-ruled, rule-back, kind-back}
-use Rattle.promises.specs.Opened.{good-open}
-use Rattle.promises.specs.Reached.{ruled-reply}
-use Rattle.promises.specs.Taken.{take-accepts, taken-index, takes, took-take, held-index}
+use Rattle.promises.specs.closes.CloseWay.{Closes, close-accepted}
+use Rattle.recorder.specs.laws.Closed.{side-length-closed}
+use Rattle.promises.specs.closes.ClosedRules.{front-closed, encodes-closed}
+use Rattle.recorder.specs.laws.Facts.{Ruled, passes-ruled, rule-back, kind-back}
+use Rattle.promises.specs.worlds.Opened.{good-open}
+use Rattle.promises.specs.worlds.Reached.{ruled-reply}
+use Rattle.promises.specs.desks.Taken.{take-accepts, taken-index, takes, took-take, held-index}
 
 -- what the code's types say of a world: arrays of 16, a tick of 32 bits, a ledger of bytes
 pub record Typed (w : World) : Type 0 where

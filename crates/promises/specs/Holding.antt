@@ -12,21 +12,22 @@ use Rattle.lists.specs.Bools.{if-then}
 use Rattle.octets.specs.Part.{part}
 use Rattle.units.specs.Sizes.{indexEnd, sideLength}
 use Rattle.units.specs.Refusals as Refusals
-use Rattle.units.specs.Tests.{tested, tested-behind}
+use Rattle.units.specs.Tests.{tested}
+use Rattle.units.specs.laws.Tests.{tested-behind}
 use Rattle.units.specs.declared.Settings.{Settings}
 use Rattle.sidefile.specs.Judge.{wholeTests}
-use Rattle.sidefile.specs.Lengths.{indexEnd-named}
+use Rattle.sidefile.specs.laws.Lengths.{indexEnd-named}
 use Rattle.sidefile.specs.declared.Header.{Header}
 use Rattle.recorder.specs.World.{World}
 use Rattle.recorder.specs.Runs.{Call, run, reply, Recording, opening, reached}
 use Rattle.desk.specs.Take.{Taken, untaken, heldLength, taken, takeTests, takeReply, refreshReply}
-use Rattle.promises.specs.AlikeDesk.{take-slices}
+use Rattle.promises.specs.alike.AlikeDesk.{take-slices}
 use Rattle.promises.specs.Demand.{later, HoldsIndex, SideNow}
-use Rattle.promises.specs.Fronts.{Front}
-use Rattle.promises.specs.Good.{Good}
-use Rattle.promises.specs.Reached.{good-reply, good-run, good-reached, tick-reply, tick-run, side-reply, settings-run, settings-reached}
-use Rattle.promises.specs.Refreshed.{refresh-is-take}
-use Rattle.promises.specs.Taken.{Took, side-header, side-accepted, took-take}
+use Rattle.promises.specs.worlds.Fronts.{Front}
+use Rattle.promises.specs.worlds.Good.{Good}
+use Rattle.promises.specs.worlds.Reached.{good-reply, good-run, good-reached, tick-reply, tick-run, side-reply, settings-run, settings-reached}
+use Rattle.promises.specs.desks.Refreshed.{refresh-is-take}
+use Rattle.promises.specs.desks.Taken.{Took, side-header, side-accepted, took-take}
 
 -- while no tick is closed, the side file is not written
 side-run : (cs : List Call) (w : World) → Good w → run cs w .state .closed .0 ≡ w .state .closed .0 → run cs w .side ≡ w .side

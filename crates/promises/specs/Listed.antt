@@ -7,13 +7,13 @@ use mathlib.Core.List.{_++_}
 use lib.ListN.{length}
 use Rattle.recorder.specs.Runs.{Recording, opening, reached}
 use Rattle.recorder.specs.World.{World}
-use Rattle.listing.specs.Encoded.{listing-encoded}
+use Rattle.listing.specs.laws.Encoded.{listing-encoded}
 use Rattle.listing.specs.Text.{headLine, entryLines, listing}
 use Rattle.promises.specs.Demand.{AtClose}
-use Rattle.promises.specs.Encoded.{encodes-good}
-use Rattle.promises.specs.Good.{Good}
-use Rattle.promises.specs.Settled.{settled}
-use Rattle.promises.specs.Taken.{indexIn, headerIn, side-long}
+use Rattle.promises.specs.worlds.Encoded.{encodes-good}
+use Rattle.promises.specs.worlds.Good.{Good}
+use Rattle.promises.specs.worlds.Settled.{settled}
+use Rattle.promises.specs.desks.Taken.{indexIn, headerIn, side-long}
 
 -- in between, those of the last close
 pub good-listed : (w : World) (g : Good w) → listing (length (w .side)) (w .side) ≡ headLine (headerIn w (g .ending)) ++ entryLines (indexIn w)

@@ -15,7 +15,7 @@ use Rattle.recorder.specs.declared.Answer.{Answer}
 use Rattle.recorder.specs.declared.State.{State}
 use Rattle.desk.specs.Read as Desk
 use Rattle.promises.specs.Demand.{AtClose, SameUpToClose, WithinLag, HoldsIndex, SideNow, BaseNow, RawThen, BytesThen, later}
-use Rattle.promises.specs.Demanded.{same-answers, held-then}
+use Rattle.promises.specs.closes.Demanded.{same-answers, held-then}
 use Rattle.promises.specs.Refused.{refused-same}
 
 -- what a call leaves: its answer, the five slices and the caller's own slice at exit

@@ -7,10 +7,11 @@ use mathlib.Core.Logic.{_⊎_, inl, inr}
 use mathlib.Core.Option.{Option, some, none}
 use lib.Dec.{eqb}
 use lib.ListN.{length}
-use Rattle.lists.specs.Bools.{if-has}
+use Rattle.lists.specs.laws.Bools.{if-has}
 use Rattle.octets.specs.Part.{part}
 use Rattle.units.specs.Sizes.{imageAt}
-use Rattle.units.specs.Tests.{Test, tested, tested-has}
+use Rattle.units.specs.Tests.{Test, tested}
+use Rattle.units.specs.laws.Tests.{tested-has}
 use Rattle.units.specs.declared.Settings.{Settings}
 use Rattle.sidefile.specs.Encode.{imageSum, headerOf, indexOf}
 use Rattle.sidefile.specs.declared.IndexEntry.{IndexEntry}

@@ -6,17 +6,18 @@ use mathlib.Core.Bool.{Bool, true, false}
 use mathlib.Core.List.{List}
 use native.Mathlib.Omega.{arith}
 use lib.ListN.{length}
-use Rattle.octets.specs.Part.{length-lay}
-use Rattle.units.specs.Bounds.{limits-within, firstImage-least}
+use Rattle.octets.specs.laws.Part.{length-lay}
+use Rattle.units.specs.laws.Bounds.{limits-within, firstImage-least}
 use Rattle.units.specs.Sizes.{indexEnd}
-use Rattle.units.specs.Tests.{passes, verdict, passes-both, verdict-none}
+use Rattle.units.specs.Tests.{passes, verdict}
+use Rattle.units.specs.laws.Tests.{passes-both, verdict-none}
 use Rattle.units.specs.declared.Settings.{Settings}
-use Rattle.recorder.specs.Asked.{Span, numbered-span, span-facts, numbered-grow, grow-facts, numbered-open, open-facts, Opens}
+use Rattle.recorder.specs.laws.Asked.{Span, numbered-span, span-facts, numbered-grow, grow-facts, numbered-open, open-facts, Opens}
 use Rattle.recorder.specs.Calls.{openTests, spanTests, growTests}
-use Rattle.recorder.specs.Facts.{rule-facts, Stands, stands-facts}
+use Rattle.recorder.specs.laws.Facts.{rule-facts, Stands, stands-facts}
 use Rattle.recorder.specs.Rules.{rules, standing}
-use Rattle.recorder.specs.Tests.{accessTests, growthTests}
-use Rattle.recorder.specs.Using.{Places, Chosen, broughtTo}
+use Rattle.recorder.specs.inner.Tests.{accessTests, growthTests}
+use Rattle.recorder.specs.inner.Using.{Places, Chosen, broughtTo}
 use Rattle.recorder.specs.World.{World, pageSize}
 use Rattle.recorder.specs.declared.buffer.Use.{Use}
 use Rattle.recorder.proofs.Bringing.{alone, rules-alone, ruled-within, ruled-end, page-in, slot-in}

@@ -7,21 +7,21 @@ use mathlib.Core.List.{[]}
 use mathlib.Core.Option.{Option, some, none}
 use native.Mathlib.Omega.{arith}
 use lib.ListN.{length}
-use Rattle.octets.specs.Rows.{row-in}
+use Rattle.octets.specs.laws.Rows.{row-in}
 use borrow.Author.Tests.{leb-true}
-use Rattle.units.specs.Bounds.{Within, limits-within}
+use Rattle.units.specs.laws.Bounds.{Within, limits-within}
 use Rattle.units.specs.Sizes.{entryRow, placesAt, ledgerLength}
-use Rattle.slots.specs.Answers.{seating}
-use Rattle.slots.specs.Asked.{Takes, touch-asks, seat-asks}
-use Rattle.slots.specs.Seats.{seat-taken}
-use Rattle.slots.specs.Sits.{Whole, Sits, slot-facts, sits, slot-found, slot-beyond}
+use Rattle.slots.specs.inner.Answers.{seating}
+use Rattle.slots.specs.inner.Asked.{Takes, touch-asks, seat-asks}
+use Rattle.slots.specs.laws.Seats.{seat-taken}
+use Rattle.slots.specs.laws.Sits.{Whole, Sits, slot-facts, sits, slot-found, slot-beyond}
 use Rattle.slots.specs.Table.{Seat}
 use Rattle.slots.specs.declared.Seating.{Seating}
 use Rattle.recorder.specs.Calls.{unclean, Found, hit, miss, nowhere, foundIn, found, seatFor}
-use Rattle.recorder.specs.Facts.{rule-facts}
+use Rattle.recorder.specs.laws.Facts.{rule-facts}
 use Rattle.recorder.specs.Outcome.{lent}
 use Rattle.recorder.specs.Rules.{rules}
-use Rattle.recorder.specs.Using.{useOf, Places, Chosen}
+use Rattle.recorder.specs.inner.Using.{useOf, Places, Chosen}
 use Rattle.recorder.specs.World.{World, pageSize, slotCount, entriesOf, slotFor}
 use Rattle.recorder.specs.declared.buffer.Use.{Use}
 

@@ -7,37 +7,40 @@ use mathlib.Core.List.{List, [], _∷_, map}
 use mathlib.Core.Option.{Option, some, none}
 use native.Mathlib.Omega.{arith}
 use lib.ListN.{length, take}
-use Rattle.lists.specs.Below.{below, every-from}
-use Rattle.lists.specs.Maps.{every-take}
-use Rattle.lists.specs.Scans.{Every, every-map, every-keep}
+use Rattle.lists.specs.Below.{below}
+use Rattle.lists.specs.laws.Below.{every-from}
+use Rattle.lists.specs.laws.Maps.{every-take}
+use Rattle.lists.specs.Scans.{Every}
+use Rattle.lists.specs.laws.Scans.{every-map, every-keep}
 use Rattle.octets.specs.Number.{Octets}
-use Rattle.octets.specs.Part.{lay, length-lay}
-use Rattle.units.specs.Bounds.{Within, limits-within, entries-most, places-most, firstImage-least}
+use Rattle.octets.specs.Part.{lay}
+use Rattle.octets.specs.laws.Part.{length-lay}
+use Rattle.units.specs.laws.Bounds.{Within, limits-within, entries-most, places-most, firstImage-least}
 use Rattle.units.specs.Sizes.{top, entryRow, headerLength, limits, entries, places, indexEnd, sideLength, placesAt, ledgerLength}
 use Rattle.units.specs.declared.Tick.{Tick}
-use Rattle.sidefile.specs.Decode.{checksum-below}
+use Rattle.sidefile.specs.laws.Decode.{checksum-below}
 use Rattle.sidefile.specs.Encode.{imageSum, headerFor, indexBytes}
 use Rattle.slots.specs.Table.{toPage, slotOf, pageAt}
-use Rattle.ledger.specs.Closes.{fresh-arrays, later-in, renewed-later, renews, due-now}
-use Rattle.ledger.specs.Closing.{newOf, every-later, small-new, small-later, length-fresh}
+use Rattle.ledger.specs.laws.Closes.{fresh-arrays, later-in, renewed-later, renews, due-now}
+use Rattle.ledger.specs.laws.Closing.{newOf, every-later, small-new, small-later, length-fresh}
 use Rattle.ledger.specs.Entries.{pageOf, putAll}
-use Rattle.ledger.specs.Flagged.{others}
-use Rattle.ledger.specs.Laid.{layEach}
-use Rattle.ledger.specs.Renewed.{freshAt, freshOf, Puts, Settles, Renews, laterIn, settled, renewed}
-use Rattle.ledger.specs.Rowed.{Small, small-entriesIn}
-use Rattle.ledger.specs.Settled.{settles, settled-puts, settled-renewed}
-use Rattle.ledger.specs.Guarded.{later-read}
-use Rattle.ledger.specs.Written.{rowsOf}
+use Rattle.ledger.specs.inner.Flagged.{others}
+use Rattle.ledger.specs.laws.Laid.{layEach}
+use Rattle.ledger.specs.inner.Renewed.{freshAt, freshOf, Puts, Settles, Renews, laterIn, settled, renewed}
+use Rattle.ledger.specs.laws.Rowed.{Small, small-entriesIn}
+use Rattle.ledger.specs.laws.Settled.{settles, settled-puts, settled-renewed}
+use Rattle.ledger.specs.laws.Guarded.{later-read}
+use Rattle.ledger.specs.laws.Written.{rowsOf}
 use Rattle.ledger.specs.View.{indexed, entriesIn}
 use Rattle.ledger.specs.declared.Entry.{Entry}
-use Rattle.recorder.specs.Carried.{Carries, Carried}
+use Rattle.recorder.specs.inner.Carried.{Carries, Carried}
 use Rattle.recorder.specs.Close.{openTick, changes, freePlaces, given, freshEntries, staying, after, frontStores, toSide, ledgerAfter, closed}
-use Rattle.recorder.specs.Closed.{closingOf, fresh-new, after-later, due-of, enough}
-use Rattle.recorder.specs.Facts.{RuleFacts, rule-facts}
-use Rattle.recorder.specs.Handed.{shown}
-use Rattle.recorder.specs.Planned.{Lists}
-use Rattle.recorder.specs.Stored.{imageStart, heldBytes, imaged, front-laid, side-stored, base-stored}
-use Rattle.recorder.specs.Stretches.{imagesLaid, imageSums, dueLaid}
+use Rattle.recorder.specs.laws.Closed.{closingOf, fresh-new, after-later, due-of, enough}
+use Rattle.recorder.specs.laws.Facts.{RuleFacts, rule-facts}
+use Rattle.recorder.specs.inner.Handed.{shown}
+use Rattle.recorder.specs.inner.Planned.{Lists}
+use Rattle.recorder.specs.laws.Stored.{imageStart, heldBytes, imaged, front-laid, side-stored, base-stored}
+use Rattle.recorder.specs.inner.Stretches.{imagesLaid, imageSums, dueLaid}
 use Rattle.recorder.specs.World.{World, slotCount, entriesOf, slotBytes, slotFor, bytesAt, bytesIn}
 
 each-map : {A B : Type 0} (at : B → ℕ) (b : B → List ℕ) (g : A → B) (l : List A) (xs : List ℕ) → layEach at b (map g l) xs ≡ layEach (λ x. at (g x)) (λ x. b (g x)) l xs

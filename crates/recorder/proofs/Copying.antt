@@ -10,30 +10,32 @@ use native.Mathlib.Omega.{arith}
 use lib.ListN.{length, take, drop, set, getD}
 use lib.Seq.{take-suc, take-suc-set, getD-take, length-take-le}
 use Rattle.lists.specs.Below.{from, below}
-use Rattle.lists.specs.Maps.{map-append, every-get}
-use Rattle.lists.specs.Passes.{below-snoc}
+use Rattle.lists.specs.laws.Maps.{map-append, every-get}
+use Rattle.lists.specs.laws.Passes.{below-snoc}
 use Rattle.lists.specs.Scans.{Every, keep}
-use Rattle.octets.specs.Part.{part, lay, length-lay}
+use Rattle.octets.specs.Part.{part, lay}
+use Rattle.octets.specs.laws.Part.{length-lay}
 use Rattle.lookup3.specs.Hash.{hashlittle}
-use Rattle.octets.specs.Rows.{row, row-in}
-use Rattle.units.specs.Bounds.{limits-within, pages-most}
+use Rattle.octets.specs.Rows.{row}
+use Rattle.octets.specs.laws.Rows.{row-in}
+use Rattle.units.specs.laws.Bounds.{limits-within, pages-most}
 use Rattle.units.specs.Sizes.{entryRow, limits, wait, places, imageAt, bufferLength, sideLength, baseLength}
 use Rattle.units.specs.declared.Page.{Page}
 use Rattle.units.specs.declared.Place.{Place}
 use Rattle.units.specs.declared.Settings.{Settings}
 use Rattle.units.specs.declared.Tick.{Tick}
 use Rattle.sidefile.specs.Encode.{imageSum, checksum}
-use Rattle.slots.specs.Numbers.{tableOf}
-use Rattle.slots.specs.Sits.{slot-found}
+use Rattle.slots.specs.inner.Numbers.{tableOf}
+use Rattle.slots.specs.laws.Sits.{slot-found}
 use Rattle.slots.specs.Table.{toPage, slotOf, pageAt}
 use Rattle.ledger.specs.Entries.{pageOf}
-use Rattle.ledger.specs.Laid.{layEach}
-use Rattle.ledger.specs.Read.{entry-next, entries-end}
-use Rattle.ledger.specs.Renewed.{isDueNow}
+use Rattle.ledger.specs.laws.Laid.{layEach}
+use Rattle.ledger.specs.laws.Read.{entry-next, entries-end}
+use Rattle.ledger.specs.inner.Renewed.{isDueNow}
 use Rattle.ledger.specs.View.{entryOf, entriesIn}
 use Rattle.ledger.specs.declared.Entry.{Entry}
-use Rattle.recorder.specs.Handed.{shown}
-use Rattle.recorder.specs.Stretches.{stretchAt, stretchFor, imagesLaid, imageSums, dueLaid, stretch-held, stretch-in, stretch-short}
+use Rattle.recorder.specs.inner.Handed.{shown}
+use Rattle.recorder.specs.inner.Stretches.{stretchAt, stretchFor, imagesLaid, imageSums, dueLaid, stretch-held, stretch-in, stretch-short}
 use Rattle.recorder.specs.World.{World, slotFor, bytesIn}
 use Rattle.recorder.specs.declared.stores.Stretch.{Stretch}
 

@@ -6,20 +6,21 @@ use mathlib.Core.List.{List, [], _∷_, _++_, append-assoc}
 use native.Mathlib.Omega.{arith}
 use lib.Dec.{ltb}
 use borrow.Author.Tests.{ltb-true, eqb-false}
-use Rattle.lists.specs.Bools.{both}
+use Rattle.lists.specs.laws.Bools.{both}
 use Rattle.lists.specs.Scans.{allOf}
 use Rattle.units.specs.Refusals as Refusals
 use Rattle.units.specs.Sizes.{top, sideLength, baseLength, bufferLength}
 use Rattle.units.specs.declared.Tick.{Tick}
-use Rattle.units.specs.Tests.{Test, passes, verdict, tested, passes-both, verdict-none, refused-before, refused-last, accepted-last}
+use Rattle.units.specs.Tests.{Test, passes, verdict, tested}
+use Rattle.units.specs.laws.Tests.{passes-both, verdict-none, refused-before, refused-last, accepted-last}
 use Rattle.slots.specs.Table.{unmarked}
 use Rattle.slots.specs.declared.Slots.{Slots}
-use Rattle.recorder.specs.Carried.{Closes, Carried, Ended}
+use Rattle.recorder.specs.inner.Carried.{Closes, Carried, Ended}
 use Rattle.recorder.specs.Close.{openTick, closed, suffices, closeTests, closeReply}
-use Rattle.recorder.specs.Facts.{Stands, stands-facts}
+use Rattle.recorder.specs.laws.Facts.{Stands, stands-facts}
 use Rattle.recorder.specs.Outcome.{lent}
 use Rattle.recorder.specs.Rules.{standing}
-use Rattle.recorder.specs.Tests.{lastTick}
+use Rattle.recorder.specs.inner.Tests.{lastTick}
 use Rattle.recorder.specs.World.{World, refuse, accept, setClosed, setEntries, setSlots}
 use Rattle.recorder.specs.declared.close.Done.{Done}
 

@@ -18,13 +18,13 @@ use Rattle.slots.specs.Rules.{isSome, slotRules}
 use Rattle.slots.specs.Table.{pageAt, slotOf}
 use Rattle.slots.specs.declared.Slots.{Slots}
 use Rattle.ledger.specs.Entries.{pageOf}
-use Rattle.ledger.specs.Fits.{sits}
+use Rattle.ledger.specs.inner.Fits.{sits}
 use Rattle.ledger.specs.Rules.{ledgerRules}
 use Rattle.ledger.specs.View.{entriesIn}
 use Rattle.ledger.specs.declared.Entry.{Entry}
 use Rattle.recorder.specs.Outcome.{lent}
 use Rattle.recorder.specs.Rules.{rules, longEnough, kindRules, standing}
-use Rattle.recorder.specs.Seats.{seatFits}
+use Rattle.recorder.specs.inner.Seats.{seatFits}
 use Rattle.recorder.specs.World.{World, entriesOf, slotFor}
 use Rattle.recorder.specs.declared.State.{State}
 use Rattle.recorder.proofs.Passes.{table-fits}

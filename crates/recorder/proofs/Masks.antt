@@ -11,10 +11,11 @@ use borrow.Author.Tests.{eq-eqb, ne-eqb}
 use lib.Dec.{eqb}
 use lib.ListN.{length, getD, set, length-map}
 use lib.Seq.{ext-getD, getD-set-same, getD-set-other}
-use Rattle.lists.specs.Below.{below, length-from, get-from}
+use Rattle.lists.specs.Below.{below}
+use Rattle.lists.specs.laws.Below.{length-from, get-from}
 use Rattle.units.specs.Sizes.{wait}
 use Rattle.units.specs.declared.Tick.{Tick}
-use Rattle.slots.specs.Sits.{slot-found}
+use Rattle.slots.specs.laws.Sits.{slot-found}
 use Rattle.slots.specs.Table.{pageAt, changedAt, slotOf, uses, orElse, victimIn, victim, seated}
 use Rattle.slots.specs.declared.Slots.{Slots}
 use Rattle.ledger.specs.Entries.{owedPage}

@@ -9,16 +9,17 @@ use lib.Dec.{eqb, ltb}
 use lib.ListN.{length, take, drop, getD, length-take}
 use lib.Seq.{drop-cons, getD-take, drop-length}
 use borrow.Author.Tests.{eq-eqb, ne-eqb, ltb-true}
-use Rattle.lists.specs.Below.{below, all-from}
-use Rattle.lists.specs.Bools.{or-drop}
+use Rattle.lists.specs.Below.{below}
+use Rattle.lists.specs.laws.Below.{all-from}
+use Rattle.lists.specs.laws.Bools.{or-drop}
 use Rattle.lists.specs.Scans.{allOf}
 use Rattle.units.specs.declared.Page.{Page}
-use Rattle.slots.specs.Numbers.{tableOf}
+use Rattle.slots.specs.inner.Numbers.{tableOf}
 use Rattle.slots.specs.Rules.{slotRules}
-use Rattle.slots.specs.Sits.{slot-facts}
+use Rattle.slots.specs.laws.Sits.{slot-facts}
 use Rattle.slots.specs.Table.{toPage, noPage, pageAt, vacant}
 use Rattle.slots.specs.declared.Slots.{Slots}
-use Rattle.recorder.specs.Seats.{seatBelow, seatFits}
+use Rattle.recorder.specs.inner.Seats.{seatBelow, seatFits}
 
 -- a test of the first n bytes, from i on
 module _ (t : ℕ → Bool) (n : ℕ) (xs : List ℕ) (i : ℕ) where

@@ -9,36 +9,38 @@ use lib.Dec.{eqb, ltb, leb}
 use lib.ListN.{length, take, replicate, length-map, length-take}
 use lib.Seq.{length-take-le}
 use borrow.Author.Tests.{eq-eqb, ne-eqb, eqb-true, lt-ltb, ltb-true, le-leb, lt-leb, not-true}
-use Rattle.lists.specs.Below.{below, length-from}
-use Rattle.lists.specs.Bools.{both, and-make, false-of}
-use Rattle.lists.specs.Scans.{keep, allOf, every-allOf}
-use Rattle.octets.specs.Flagging.{length-flags}
-use Rattle.octets.specs.Flags.{flags}
-use Rattle.units.specs.Bounds.{limits-within, entries-most}
+use Rattle.lists.specs.Below.{below}
+use Rattle.lists.specs.laws.Below.{length-from}
+use Rattle.lists.specs.laws.Bools.{both, and-make, false-of}
+use Rattle.lists.specs.Scans.{keep, allOf}
+use Rattle.lists.specs.laws.Scans.{every-allOf}
+use Rattle.octets.specs.laws.Flagging.{length-flags}
+use Rattle.octets.specs.inner.Flags.{flags}
+use Rattle.units.specs.laws.Bounds.{limits-within, entries-most}
 use Rattle.units.specs.Sizes.{entryRow, limits, entries, places, placesAt, ledgerLength}
 use Rattle.units.specs.declared.Tick.{Tick}
 use Rattle.sidefile.specs.Encode.{imageSum}
 use Rattle.sidefile.specs.Judge.{ascending, apart}
-use Rattle.sidefile.specs.Table.{placesFit, all-seen}
+use Rattle.sidefile.specs.inner.Table.{placesFit, all-seen}
 use Rattle.sidefile.specs.declared.IndexEntry.{IndexEntry}
-use Rattle.slots.specs.Numbers.{tableOf}
-use Rattle.slots.specs.Order.{unless}
-use Rattle.slots.specs.Sits.{slot-facts, changed-not}
+use Rattle.slots.specs.inner.Numbers.{tableOf}
+use Rattle.slots.specs.laws.Order.{unless}
+use Rattle.slots.specs.laws.Sits.{slot-facts, changed-not}
 use Rattle.slots.specs.Table.{toPage, pageAt, vacant, changedAt, changedPage}
-use Rattle.ledger.specs.Changed.{among, entryTicks, among-kept}
-use Rattle.ledger.specs.Closes.{others-stay}
-use Rattle.ledger.specs.Closing.{newOf, staysOf, changesOf, freeOf, length-fresh}
+use Rattle.ledger.specs.inner.Changed.{among, entryTicks, among-kept}
+use Rattle.ledger.specs.laws.Closes.{others-stay}
+use Rattle.ledger.specs.laws.Closing.{newOf, staysOf, changesOf, freeOf, length-fresh}
 use Rattle.ledger.specs.Entries.{placeOf, retires, fresh}
-use Rattle.ledger.specs.Flagged.{others, others-count}
-use Rattle.ledger.specs.Ordered.{length-put}
-use Rattle.ledger.specs.Rowed.{length-entriesIn}
-use Rattle.ledger.specs.Tables.{freeIn}
+use Rattle.ledger.specs.inner.Flagged.{others, others-count}
+use Rattle.ledger.specs.laws.Ordered.{length-put}
+use Rattle.ledger.specs.laws.Rowed.{length-entriesIn}
+use Rattle.ledger.specs.inner.Tables.{freeIn}
 use Rattle.ledger.specs.View.{indexed, entriesIn}
 use Rattle.recorder.specs.Close.{openTick, changedIn, changes, freePlaces, given, freshEntries, staying, after, suffices}
-use Rattle.recorder.specs.Closed.{closingOf, after-later}
-use Rattle.recorder.specs.Facts.{rule-facts}
-use Rattle.recorder.specs.Handed.{filed}
-use Rattle.recorder.specs.Planned.{Plans, Lists, Planned, PlansTo}
+use Rattle.recorder.specs.laws.Closed.{closingOf, after-later}
+use Rattle.recorder.specs.laws.Facts.{rule-facts}
+use Rattle.recorder.specs.inner.Handed.{filed}
+use Rattle.recorder.specs.inner.Planned.{Plans, Lists, Planned, PlansTo}
 use Rattle.recorder.specs.Rules.{rules}
 use Rattle.recorder.specs.World.{World, slotCount, waitOf, entriesOf, slotFor, bytesIn}
 

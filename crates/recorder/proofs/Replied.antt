@@ -13,16 +13,17 @@ use Rattle.octets.specs.Rows.{page}
 use Rattle.units.specs.Ages.{tick}
 use Rattle.units.specs.Refusals as Refusals
 use Rattle.units.specs.Sizes.{ledgerLength}
-use Rattle.units.specs.Tests.{verdict, tested-passes, refused-by}
+use Rattle.units.specs.Tests.{verdict}
+use Rattle.units.specs.laws.Tests.{tested-passes, refused-by}
 use Rattle.units.specs.declared.Settings.{Settings}
 use Rattle.sidefile.specs.Encode.{headerFor, indexBytes}
-use Rattle.slots.specs.Asked.{seat-table}
+use Rattle.slots.specs.inner.Asked.{seat-table}
 use Rattle.slots.specs.Table.{Seat}
 use Rattle.slots.specs.declared.Slots.{Slots}
 use Rattle.recorder.specs.Calls.{openState, openTests, opened, openReply, unclean, Found, hit, miss, nowhere, foundIn, found, hitWorld, missWorld, metaBypass, rawBypass, spanIn, laidIn, readFound, readReply, written, writeFound, writeReply, grown, zeroPage, growSeated, growReply, seatFor}
 use Rattle.recorder.specs.Outcome.{lent}
-use Rattle.recorder.specs.Tests.{accessTests, growthTests}
-use Rattle.recorder.specs.Using.{useOf, Chosen, usedState, changedState, seatedState, broughtTo}
+use Rattle.recorder.specs.inner.Tests.{accessTests, growthTests}
+use Rattle.recorder.specs.inner.Using.{useOf, Chosen, usedState, changedState, seatedState, broughtTo}
 use Rattle.recorder.specs.World.{World, refuse, accept, setState, setEnd, setSlots, setMeta, setLedger, setBase, setSide, setBuffer, setKinds, addMiss, zeroState, pageSize, slotCount, kindOf, metadata, slotFor, baseBytes}
 use Rattle.recorder.specs.declared.State.{State}
 use Rattle.recorder.specs.declared.buffer.Use.{Use}

@@ -10,14 +10,15 @@ use borrow.Author.Tests.{le-leb, lt-leb, le-ltb, lt-ltb}
 use Rattle.lists.specs.Scans.{allOf}
 use Rattle.units.specs.Refusals as Refusals
 use Rattle.units.specs.Sizes.{top, limits, insidePage, ledgerLength}
-use Rattle.units.specs.Tests.{Test, passes, verdict, verdict-behind, verdict-none}
+use Rattle.units.specs.Tests.{Test, passes, verdict}
+use Rattle.units.specs.laws.Tests.{verdict-behind, verdict-none}
 use Rattle.units.specs.declared.Settings.{Settings}
 use Rattle.recorder.specs.Calls.{openTests, spanTests, growTests}
 use Rattle.recorder.specs.Close.{closeTests}
-use Rattle.recorder.specs.Facts.{rule-facts, long-facts, stands-facts}
+use Rattle.recorder.specs.laws.Facts.{rule-facts, long-facts, stands-facts}
 use Rattle.recorder.specs.Outcome.{lent}
 use Rattle.recorder.specs.Rules.{longEnough, standing}
-use Rattle.recorder.specs.Tests.{lastTick}
+use Rattle.recorder.specs.inner.Tests.{lastTick}
 use Rattle.recorder.specs.World.{World}
 use Rattle.recorder.specs.declared.State.{State}
 use Rattle.recorder.proofs.Judging.{long-part}

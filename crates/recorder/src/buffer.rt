@@ -17,7 +17,7 @@ ghost use Rattle.octets.specs.Rows.{page};
 ghost use Rattle.recorder.specs.Calls.{unclean};
 ghost use Rattle.recorder.specs.Outcome.{lent};
 ghost use Rattle.recorder.specs.Rules.{rules};
-ghost use Rattle.recorder.specs.Using.{Places, placed, Chosen, broughtTo};
+ghost use Rattle.recorder.specs.inner.Using.{Places, placed, Chosen, broughtTo};
 
 // The slot in which a page is used: its own, a hit, or one that it takes, for which a page may have to go; or there is none to
 // take.

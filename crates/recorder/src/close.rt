@@ -15,11 +15,11 @@ use units::Tick;
 use units::refusal;
 ghost use mathlib.Core.Path.{_≡_};
 ghost use mathlib.Core.List.{[]};
-ghost use Rattle.octets.specs.Flags.{flags};
-ghost use Rattle.slots.specs.Numbers.{pagesOf};
-ghost use Rattle.recorder.specs.Carried.{Closes, Carries, CarriesTo, ClosesTo};
+ghost use Rattle.octets.specs.inner.Flags.{flags};
+ghost use Rattle.slots.specs.inner.Numbers.{pagesOf};
+ghost use Rattle.recorder.specs.inner.Carried.{Closes, Carries, CarriesTo, ClosesTo};
 ghost use Rattle.recorder.specs.Close.{closeReply};
-ghost use Rattle.recorder.specs.Handed.{handed, flagged, filed};
+ghost use Rattle.recorder.specs.inner.Handed.{handed, flagged, filed};
 ghost use Rattle.recorder.specs.Outcome.{lent, answered};
 ghost use Rattle.recorder.specs.World.{World};
 

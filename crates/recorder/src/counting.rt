@@ -1,7 +1,7 @@
 // The counts (document 01, "Counts"): what a hit, a miss, an eviction and a bypass add. Each stops at the largest number.
 use crate::Counts;
 ghost use mathlib.Core.Path.{_≡_};
-ghost use Rattle.recorder.specs.Using.{addUse};
+ghost use Rattle.recorder.specs.inner.Using.{addUse};
 ghost use Rattle.recorder.specs.World as World;
 
 const MOST: u32 = 4294967295;

@@ -18,7 +18,7 @@ ghost use Rattle.units.specs.Sizes.{limits};
 ghost use Rattle.units.specs.Tests.{verdict};
 ghost use Rattle.recorder.specs.Outcome.{lent};
 ghost use Rattle.recorder.specs.Rules as Rules;
-ghost use Rattle.recorder.specs.Seats.{seatBelow, seatFits};
+ghost use Rattle.recorder.specs.inner.Seats.{seatBelow, seatFits};
 ghost use Rattle.recorder.specs.World.{zeroState};
 
 // The rules that need no other slice than the ledger.

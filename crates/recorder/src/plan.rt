@@ -10,10 +10,10 @@ use units::Tick;
 ghost use mathlib.Core.Path.{_≡_};
 ghost use mathlib.Core.Bool.{false};
 ghost use lib.ListN.{length, replicate};
-ghost use Rattle.octets.specs.Flags.{flags};
-ghost use Rattle.slots.specs.Numbers.{pagesOf};
-ghost use Rattle.recorder.specs.Handed.{handed, flagged};
-ghost use Rattle.recorder.specs.Planned.{Plans, PlansTo};
+ghost use Rattle.octets.specs.inner.Flags.{flags};
+ghost use Rattle.slots.specs.inner.Numbers.{pagesOf};
+ghost use Rattle.recorder.specs.inner.Handed.{handed, flagged};
+ghost use Rattle.recorder.specs.inner.Planned.{Plans, PlansTo};
 ghost use Rattle.recorder.specs.World.{World};
 
 // Whether there is enough, and how many elements of the lent arrays count.

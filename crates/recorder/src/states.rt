@@ -9,10 +9,10 @@ use units::Tick;
 ghost use mathlib.Core.Path.{_≡_};
 ghost use mathlib.Core.List.{[]};
 ghost use Prim.Native.Nat.{_+_, _<_};
-ghost use Rattle.slots.specs.Asked.{Takes};
+ghost use Rattle.slots.specs.inner.Asked.{Takes};
 ghost use Rattle.recorder.specs.Calls as Calls;
 ghost use Rattle.recorder.specs.Outcome.{lent};
-ghost use Rattle.recorder.specs.Using as Using;
+ghost use Rattle.recorder.specs.inner.Using as Using;
 ghost use Rattle.recorder.specs.World.{setEnd, zeroState};
 
 impl State {

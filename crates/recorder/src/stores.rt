@@ -16,11 +16,11 @@ ghost use Prim.Native.Nat.{_≤_, _<_, _*_};
 ghost use lib.ListN.{length, take};
 ghost use Rattle.lists.specs.Scans.{Every};
 ghost use Rattle.units.specs.Sizes as Sizes;
-ghost use Rattle.slots.specs.Numbers.{pagesOf};
+ghost use Rattle.slots.specs.inner.Numbers.{pagesOf};
 ghost use Rattle.ledger.specs.Entries.{pageOf};
 ghost use Rattle.ledger.specs.View.{entriesIn};
-ghost use Rattle.recorder.specs.Handed.{shown};
-ghost use Rattle.recorder.specs.Stretches.{stretchFor, imagesLaid, imageSums, dueLaid};
+ghost use Rattle.recorder.specs.inner.Handed.{shown};
+ghost use Rattle.recorder.specs.inner.Stretches.{stretchFor, imagesLaid, imageSums, dueLaid};
 
 // A part of the page buffer.
 pub struct Stretch {

@@ -14,7 +14,7 @@ ghost use Rattle.lists.specs.Scans.{allOf};
 ghost use Rattle.units.specs.Tests.{verdict};
 ghost use Rattle.recorder.specs.Calls as Calls;
 ghost use Rattle.recorder.specs.Outcome.{lent};
-ghost use Rattle.recorder.specs.Tests.{accessTests, growthTests, earlyTests};
+ghost use Rattle.recorder.specs.inner.Tests.{accessTests, growthTests, earlyTests};
 ghost use Rattle.recorder.specs.World.{zeroState};
 
 const RAW: u8 = 1;

@@ -14,8 +14,8 @@ use Rattle.units.specs.Tests.{Test, passes}
 use Rattle.sidefile.specs.declared.Header.{Header}
 use Rattle.sidefile.specs.Encode.{checksum, headerOf, indexOf}
 use Rattle.sidefile.specs.Judge.{indexTests}
-use Rattle.sidefile.specs.Passed.{Indexed}
-use Rattle.sidefile.specs.Table.{entriesAt, pagesFit, placesFit, changesFit}
+use Rattle.sidefile.specs.inner.Passed.{Indexed}
+use Rattle.sidefile.specs.inner.Table.{entriesAt, pagesFit, placesFit, changesFit}
 
 -- what the index can be judged by
 pub record Reads (h : Header) (xs : List ℕ) : Type 0 where

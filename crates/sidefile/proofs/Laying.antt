@@ -5,11 +5,12 @@ use mathlib.Core.List.{List, _++_}
 use native.Mathlib.Omega.{arith}
 use lib.ListN.{length, take}
 use Rattle.octets.specs.Number.{bytes32}
-use Rattle.octets.specs.Part.{part, lay, lay-next, part-lay-same}
+use Rattle.octets.specs.Part.{part, lay}
+use Rattle.octets.specs.laws.Part.{lay-next, part-lay-same}
 use Rattle.sidefile.specs.declared.Header.{Header}
 use Rattle.sidefile.specs.Encode.{checksum, headerFront, headerBytes}
-use Rattle.sidefile.specs.Lengths.{length-headerFront}
-use Rattle.sidefile.specs.Sealed.{firstBytes, secondBytes, both-halves, length-first}
+use Rattle.sidefile.specs.laws.Lengths.{length-headerFront}
+use Rattle.sidefile.specs.inner.Sealed.{firstBytes, secondBytes, both-halves, length-first}
 
 pub next : (xs m s ys zs : List ℕ) (a k : ℕ) → m ≡ lay xs a ys → s ≡ lay m k zs → k ≡ a + length ys → s ≡ lay xs a (ys ++ zs)
 next xs m s ys zs a k e f g = f ∙ ap (λ (m : List ℕ). lay m k zs) e ∙ lay-next xs a ys zs k g

@@ -9,15 +9,16 @@ use lib.Dec.{eqb, ltb}
 use lib.ListN.{length, take, drop, set, getD, replicate, length-set, length-replicate, drop-of-length-le}
 use lib.Seq.{getD-set-same, getD-set-other, getD-drop, getD-take, drop-cons}
 use borrow.Author.Tests.{eq-eqb, ne-eqb, lt-ltb, le-ltb, le-leb, lt-leb, eqb-true, eqb-false, ltb-true}
-use Rattle.lists.specs.Bools.{both, and-right, and-yes}
+use Rattle.lists.specs.laws.Bools.{both, and-right, and-yes}
 use Rattle.lists.specs.Scans.{anyOf, allOf}
-use Rattle.octets.specs.Part.{part, length-part}
+use Rattle.octets.specs.Part.{part}
+use Rattle.octets.specs.laws.Part.{length-part}
 use Rattle.octets.specs.Rows.{row}
 use Rattle.units.specs.declared.Tick.{Tick}
 use Rattle.sidefile.specs.declared.IndexEntry.{IndexEntry}
 use Rattle.sidefile.specs.Encode.{indexEntryOf}
 use Rattle.sidefile.specs.Judge.{ascending, apart}
-use Rattle.sidefile.specs.Table.{column, entriesAt, placesFit, changesFit, position, ofPage, entry-next, entries-end}
+use Rattle.sidefile.specs.inner.Table.{column, entriesAt, placesFit, changesFit, position, ofPage, entry-next, entries-end}
 
 abbrev place : IndexEntry → ℕ
 place x = x .place .0

@@ -7,13 +7,15 @@ use native.Mathlib.Omega.{arith}
 use lib.ListN.{length}
 use borrow.Author.Tests.{le-ltb}
 use Rattle.lists.specs.Scans.{allOf}
-use Rattle.octets.specs.Rows.{row, row-in}
+use Rattle.octets.specs.Rows.{row}
+use Rattle.octets.specs.laws.Rows.{row-in}
 use Rattle.units.specs.Sizes.{headerLength, indexRow, indexEnd}
-use Rattle.units.specs.Tests.{passes, verdict, verdict-none, not-passed, refused-by, passes-both}
+use Rattle.units.specs.Tests.{passes, verdict}
+use Rattle.units.specs.laws.Tests.{verdict-none, not-passed, refused-by, passes-both}
 use Rattle.sidefile.specs.Encode.{headerOf, indexEntryOf}
 use Rattle.sidefile.specs.Judge.{markTests, headerTests, holds}
-use Rattle.sidefile.specs.Passed.{Indexed, indexed-held}
-use Rattle.sidefile.specs.Tells.{told-header, told-entry}
+use Rattle.sidefile.specs.inner.Passed.{Indexed, indexed-held}
+use Rattle.sidefile.specs.laws.Tells.{told-header, told-entry}
 use Rattle.sidefile.specs.Told.{toldTests, untold, toldOf, told, noEntry, entryOf, entryTold}
 use Rattle.sidefile.specs.declared.Header.{Header}
 use Rattle.sidefile.specs.declared.IndexEntry.{IndexEntry}

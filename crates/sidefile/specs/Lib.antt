@@ -1,10 +1,5 @@
 pub mod Encode
 pub mod Judge
-pub mod Lengths
-pub mod Decode
-pub mod Accept
-pub mod Table
-pub mod Passed
-pub mod Sealed
 pub mod Told
-pub mod Tells
+pub mod inner
+pub mod laws

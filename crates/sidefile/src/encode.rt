@@ -13,7 +13,7 @@ ghost use lib.ListN.{length};
 ghost use Rattle.octets.specs.Part.{lay};
 ghost use Rattle.units.specs.Sizes.{headerLength, indexRow, limits, indexEnd};
 ghost use Rattle.sidefile.specs.Encode.{headerBytes, headerFor, indexBytes};
-ghost use Rattle.sidefile.specs.Sealed.{firstBytes, secondBytes, sealed};
+ghost use Rattle.sidefile.specs.inner.Sealed.{firstBytes, secondBytes, sealed};
 
 // Bytes 0 to 15.
 fn write_first(s: &mut [u8], header: Header)

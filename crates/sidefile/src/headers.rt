@@ -12,7 +12,7 @@ ghost use Rattle.units.specs.Sizes.{headerLength, limits};
 ghost use Rattle.units.specs.Tests.{passes};
 ghost use Rattle.sidefile.specs.Encode.{headerOf};
 ghost use Rattle.sidefile.specs.Judge.{markTests, headerTests};
-ghost use Rattle.sidefile.specs.Passed.{asks};
+ghost use Rattle.sidefile.specs.inner.Passed.{asks};
 
 pub fn header_of(s: &[u8]) -> Header
     requires { ⌜ headerLength ≤ length (now s) ⌝ }

@@ -11,7 +11,7 @@ ghost use Prim.Native.Nat.{_≤_, min};
 ghost use lib.ListN.{length};
 ghost use Rattle.units.specs.Tests.{passes, verdict};
 ghost use Rattle.sidefile.specs.Judge.{markTests, headerTests, indexTests, wholeTests, frontTests, heldTests};
-ghost use Rattle.sidefile.specs.Passed.{asks, mostFront, Indexed};
+ghost use Rattle.sidefile.specs.inner.Passed.{asks, mostFront, Indexed};
 
 // The tests of 12 that concern the index.
 pub fn index_passes(s: &[u8]) -> bool

@@ -16,7 +16,7 @@ ghost use Rattle.lists.specs.Scans.{allOf};
 ghost use Rattle.octets.specs.Part.{part};
 ghost use Rattle.octets.specs.Rows.{row};
 ghost use Rattle.sidefile.specs.Encode.{indexEntryOf};
-ghost use Rattle.sidefile.specs.Table.{column, entriesAt, ofPage, position, pagesFit, placesFit, changesFit};
+ghost use Rattle.sidefile.specs.inner.Table.{column, entriesAt, ofPage, position, pagesFit, placesFit, changesFit};
 
 // Column c of row i.
 pub fn number(s: &[u8], at: usize, w: usize, i: usize, c: usize) -> u32

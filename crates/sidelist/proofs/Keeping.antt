@@ -4,11 +4,12 @@ use mathlib.Core.List.{List, [], _++_}
 use mathlib.Core.Path.{_≡_, refl, _∙_, sym, ap}
 use native.Mathlib.Omega.{arith}
 use lib.ListN.{length, take, length-append}
-use Rattle.octets.specs.Part.{part, lay, length-lay, lay-nil, lay-next, part-zero, part-lay-same}
-use Rattle.sidefile.specs.Passed.{mostFront}
+use Rattle.octets.specs.Part.{part, lay}
+use Rattle.octets.specs.laws.Part.{length-lay, lay-nil, lay-next, part-zero, part-lay-same}
+use Rattle.sidefile.specs.inner.Passed.{mostFront}
 use Rattle.listing.specs.Text.{listing}
-use Rattle.listing.specs.Whole.{listing-read}
-use Rattle.listing.specs.Written.{Written}
+use Rattle.listing.specs.laws.Whole.{listing-read}
+use Rattle.listing.specs.inner.Written.{Written}
 use Rattle.sidelist.specs.Input.{Kept, Listed}
 
 pub kept-none : (xs : List ℕ) → Kept xs xs 0

@@ -11,16 +11,19 @@ use lib.Dec.{eqb, ltb, leb}
 use lib.ListN.{length, take, getD, length-map, List·getD-map}
 use lib.Seq.{take-all, ext-getD}
 use borrow.Author.Tests.{lt-ltb, le-leb, eqb-true, ltb-true, leb-true, not-true}
-use Rattle.lists.specs.Below.{from, below, length-from, get-from, all-from}
-use Rattle.lists.specs.Bools.{if-then, both, false-of, not-both}
-use Rattle.lists.specs.Scans.{Every, every-map, every-allOf, allOf-every, allOf}
-use Rattle.units.specs.Pages.{numbersOf}
+use Rattle.lists.specs.Below.{from, below}
+use Rattle.lists.specs.laws.Below.{length-from, get-from, all-from}
+use Rattle.lists.specs.Bools.{if-then}
+use Rattle.lists.specs.laws.Bools.{both, false-of, not-both}
+use Rattle.lists.specs.Scans.{Every, allOf}
+use Rattle.lists.specs.laws.Scans.{every-map, every-allOf, allOf-every}
+use Rattle.units.specs.inner.Pages.{numbersOf}
 use Rattle.units.specs.declared.Page.{Page}
 use Rattle.slots.specs.Table.{toPage, noPage, pageAt, vacant, changedAt, slotOf, uses, times}
 use Rattle.slots.specs.Rules.{slotRules}
-use Rattle.slots.specs.Judged.{rowKept, useKept}
-use Rattle.slots.specs.Order.{times-here, times-next, every-there, all-below}
-use Rattle.slots.specs.Sits.{Whole, Sits, Listed, sits, sits-back, vacant-page, occupied, slot-found, slot-only, slot-alone, slot-unchanged}
+use Rattle.slots.specs.inner.Judged.{rowKept, useKept}
+use Rattle.slots.specs.laws.Order.{times-here, times-next, every-there, all-below}
+use Rattle.slots.specs.laws.Sits.{Whole, Sits, Listed, sits, sits-back, vacant-page, occupied, slot-found, slot-only, slot-alone, slot-unchanged}
 use Rattle.slots.specs.declared.Slots.{Slots}
 
 -- how often x is a value of f, from a on

@@ -11,12 +11,12 @@ use lib.ListN.{length, take, drop, getD, set, length-set}
 use lib.Seq.{take-all, take-suc, take-suc-set, drop-cons, set-split, take-set-le, drop-set-lt, getD-set-same}
 use borrow.Author.Tests.{eq-eqb, ne-eqb}
 use Rattle.lists.specs.Bools.{if-then}
-use Rattle.lists.specs.Maps.{map-append}
-use Rattle.units.specs.Pages.{numbersOf}
+use Rattle.lists.specs.laws.Maps.{map-append}
+use Rattle.units.specs.inner.Pages.{numbersOf}
 use Rattle.units.specs.declared.Page.{Page}
 use Rattle.slots.specs.Table.{toPage, without, times}
-use Rattle.slots.specs.Numbers.{pagesOf, pages-back}
-use Rattle.slots.specs.Order.{times-here, times-next, times-last}
+use Rattle.slots.specs.inner.Numbers.{pagesOf, pages-back}
+use Rattle.slots.specs.laws.Order.{times-here, times-next, times-last}
 
 map-last : {A B : Type 0} (f : A → B) (l : List A) (x : A) (r : List B) → map f (l ++ (x ∷ [])) ++ r ≡ map f l ++ (f x ∷ r)
 map-last {B = B} f l x r = ap (λ (ys : List B). ys ++ r) (map-append f l (x ∷ [])) ∙ append-assoc (map f l) (f x ∷ []) r

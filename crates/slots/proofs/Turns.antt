@@ -14,12 +14,12 @@ use lib.ListN.{length, take, drop, getD, length-map, drop-of-length-le, List·ge
 use lib.Seq.{drop-cons, getD-take, length-take-le}
 use borrow.Author.Tests.{eq-eqb, ne-eqb, lt-ltb, le-ltb}
 use Rattle.lists.specs.Below.{from}
-use Rattle.lists.specs.Passes.{from-here, from-end}
+use Rattle.lists.specs.laws.Passes.{from-here, from-end}
 use Rattle.lists.specs.Scans.{allOf, first}
-use Rattle.units.specs.Pages.{numbersOf}
+use Rattle.units.specs.inner.Pages.{numbersOf}
 use Rattle.units.specs.declared.Page.{Page}
 use Rattle.slots.specs.Table.{toPage, noPage, pageAt, vacant, changedAt, slotOf, uses, times, orElse, victimIn, victim}
-use Rattle.slots.specs.Judged.{rowKept}
+use Rattle.slots.specs.inner.Judged.{rowKept}
 use Rattle.slots.specs.declared.Slots.{Slots}
 
 -- the slot of page p, from slot i on

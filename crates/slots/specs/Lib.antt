@@ -1,11 +1,4 @@
-pub mod Answers
-pub mod Asked
-pub mod Changes
-pub mod Judged
-pub mod Moves
-pub mod Numbers
-pub mod Order
 pub mod Rules
-pub mod Seats
-pub mod Sits
 pub mod Table
+pub mod inner
+pub mod laws

@@ -9,11 +9,11 @@ ghost use mathlib.Core.Path.{_≡_};
 ghost use Prim.Native.Nat.{_≤_};
 ghost use Rattle.lists.specs.Below.{below};
 ghost use Rattle.lists.specs.Scans.{allOf};
-ghost use Rattle.units.specs.Pages.{numbersOf};
+ghost use Rattle.units.specs.inner.Pages.{numbersOf};
 ghost use Rattle.slots.specs.Table as Table;
 ghost use Rattle.slots.specs.Table.{slotsOf};
 ghost use Rattle.slots.specs.Rules.{slotRules};
-ghost use Rattle.slots.specs.Judged.{rowKept, useKept};
+ghost use Rattle.slots.specs.inner.Judged.{rowKept, useKept};
 
 // How often `page` stands in the first `n` elements.
 fn times(list: [Page; 16], n: usize, page: Page) -> u32

@@ -10,8 +10,8 @@ ghost use mathlib.Core.List.{[]};
 ghost use Prim.Native.Nat.{_≤_};
 ghost use lib.ListN.{length, getD};
 ghost use Rattle.slots.specs.Table as Table;
-ghost use Rattle.slots.specs.Answers.{toOption};
-ghost use Rattle.slots.specs.Numbers.{pagesOf, tableOf};
+ghost use Rattle.slots.specs.inner.Answers.{toOption};
+ghost use Rattle.slots.specs.inner.Numbers.{pagesOf, tableOf};
 
 impl Slots {
     pub fn slot_of(self, slots: usize, page: Page) -> Found

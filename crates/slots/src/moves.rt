@@ -6,7 +6,7 @@ use units::Page;
 ghost use mathlib.Core.Path.{_≡_};
 ghost use Prim.Native.Nat.{_≤_, _<_};
 ghost use Rattle.slots.specs.Table as Table;
-ghost use Rattle.slots.specs.Answers.{fresh, relisted};
+ghost use Rattle.slots.specs.inner.Answers.{fresh, relisted};
 
 impl Slots {
     pub fn empty() -> Slots

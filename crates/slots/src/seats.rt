@@ -9,8 +9,8 @@ ghost use mathlib.Core.Bool.{false};
 ghost use Prim.Native.Nat.{ℕ, _≤_};
 ghost use lib.ListN.{getD};
 ghost use Rattle.slots.specs.Table.{seated};
-ghost use Rattle.slots.specs.Answers as Answers;
-ghost use Rattle.slots.specs.Asked.{Takes};
+ghost use Rattle.slots.specs.inner.Answers as Answers;
+ghost use Rattle.slots.specs.inner.Asked.{Takes};
 
 impl Slots {
     // The lowest empty slot, else that of the victim. It is the same for every page.

@@ -9,9 +9,9 @@ use Rattle.units.specs.Sizes.{limits, indexEnd}
 use Rattle.units.specs.Tests.{passes}
 use Rattle.sidefile.specs.Encode.{headerOf}
 use Rattle.sidefile.specs.Judge.{reaches}
-use Rattle.sidefile.specs.Passed.{AllPassed, whole-passed}
+use Rattle.sidefile.specs.inner.Passed.{AllPassed, whole-passed}
 use Rattle.sidefile.specs.declared.Header.{Header}
-use Rattle.desk.specs.Follow.{followTests, sideTests}
+use Rattle.desk.specs.inner.Follow.{followTests, sideTests}
 use Rattle.desk.proofs.Followed.{followed, follows, whole-indexed, held-room}
 use Rattle.desk.proofs.Raised.{markable}
 use Rattle.desk.proofs.Replied.{refresh-refused, refresh-short, refresh-done}

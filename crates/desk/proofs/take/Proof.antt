@@ -8,7 +8,7 @@ use borrow.Author.Needs.{needs}
 use Rattle.units.specs.Sizes.{limits, indexEnd}
 use Rattle.units.specs.Tests.{passes}
 use Rattle.sidefile.specs.Judge.{wholeTests}
-use Rattle.sidefile.specs.Passed.{whole-passed, whole-accepted}
+use Rattle.sidefile.specs.inner.Passed.{whole-passed, whole-accepted}
 use Rattle.sidefile.specs.declared.Header.{Header}
 use Rattle.desk.specs.Outcome.{TakeDone}
 use Rattle.desk.specs.Take.{heldLength, takeReply}

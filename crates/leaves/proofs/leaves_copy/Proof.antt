@@ -1,6 +1,6 @@
 use native.Mathlib.Omega.{arith}
 use mathlib.Core.Path.{_∙_}
-use Rattle.leaves.specs.Guarded.{source-ends, target-ends, both-fit}
+use Rattle.leaves.specs.inner.Guarded.{source-ends, target-ends, both-fit}
 use borrow.Author.Needs.{needs}
 use Rattle.leaves.proofs.leaves_copy.Statement.{statement}
 use Rattle.leaves.proofs.leaves_copy.Tie as tie

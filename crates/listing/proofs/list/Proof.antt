@@ -6,15 +6,15 @@ use mathlib.Core.Bool.{true}
 use native.Mathlib.Omega.{arith}
 use Rattle.units.specs.Tests.{passes}
 use Rattle.sidefile.specs.Judge.{wholeTests}
-use Rattle.sidefile.specs.Passed.{whole-accepted}
+use Rattle.sidefile.specs.inner.Passed.{whole-accepted}
 use Rattle.sidefile.specs.Encode.{headerOf, indexOf}
-use Rattle.sidefile.specs.Table.{entriesAt, index-entries}
+use Rattle.sidefile.specs.inner.Table.{entriesAt, index-entries}
 use Rattle.sidefile.specs.declared.Header.{Header}
 use Rattle.sidefile.specs.declared.IndexEntry.{IndexEntry}
 use Rattle.units.specs.Sizes.{headerLength, indexRow}
 use Rattle.listing.specs.Text.{headLine, entryLines}
-use Rattle.listing.specs.Judged.{listing-accepted, listing-refused, accepted-few, accepted-reached}
-use Rattle.listing.specs.Written.{written-as, written-next}
+use Rattle.listing.specs.laws.Judged.{listing-accepted, listing-refused, accepted-few, accepted-reached}
+use Rattle.listing.specs.inner.Written.{written-as, written-next}
 use borrow.Author.Needs.{needs}
 use Rattle.listing.proofs.list.Statement.{statement}
 use Rattle.listing.proofs.list.Tie as tie

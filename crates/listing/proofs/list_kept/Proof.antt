@@ -3,7 +3,7 @@ use lib.ListN.{take, length-take}
 use Prim.Native.Nat.{ℕ}
 use mathlib.Core.Path.{ap}
 use Rattle.listing.specs.Text.{listing}
-use Rattle.listing.specs.Written.{written-as}
+use Rattle.listing.specs.inner.Written.{written-as}
 use borrow.Author.Needs.{needs}
 use Rattle.listing.proofs.list_kept.Statement.{statement}
 use Rattle.listing.proofs.list_kept.Tie as tie

@@ -1,7 +1,7 @@
 use mathlib.Core.Path.{refl, subst}
 use lib.ListN.{replicate}
 use borrow.Author.Needs.{needs}
-use Rattle.sidefile.specs.Passed.{mostFront}
+use Rattle.sidefile.specs.inner.Passed.{mostFront}
 use Rattle.sidelist.specs.Input.{Read, Kept}
 use Rattle.sidelist.proofs.Keeping.{listed}
 use Rattle.sidelist.proofs.list_input.Statement.{statement}

@@ -6,8 +6,8 @@ use borrow.Author.Needs.{needs}
 use borrow.Author.Tests.{not-true, not-false}
 use Rattle.units.specs.Tests.{passes, verdict}
 use Rattle.sidefile.specs.Judge.{heldTests}
-use Rattle.sidefile.specs.Passed.{held-passed}
-use Rattle.desk.specs.Follow.{sideTests, pairTests, followTests}
+use Rattle.sidefile.specs.inner.Passed.{held-passed}
+use Rattle.desk.specs.inner.Follow.{sideTests, pairTests, followTests}
 use Rattle.desk.specs.Take.{sameSettings}
 use Rattle.desk.proofs.Followed.{held-fails, side-fails, pair-decides, side-follows, side-long}
 use Rattle.desk.proofs.follow.follow.Statement.{statement}

@@ -1,5 +1,5 @@
 use borrow.Author.Needs.{needs}
-use Rattle.desk.specs.Follow.{sideTests}
+use Rattle.desk.specs.inner.Follow.{sideTests}
 use Rattle.desk.proofs.follow.judged.Statement.{statement}
 use Rattle.desk.proofs.follow.judged.Tie as tie
 

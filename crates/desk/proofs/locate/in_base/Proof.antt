@@ -1,6 +1,6 @@
 use native.Mathlib.Omega.{arith}
 use borrow.Author.Needs.{needs}
-use Rattle.desk.specs.Span.{baseSpan}
+use Rattle.desk.specs.inner.Span.{baseSpan}
 use Rattle.desk.proofs.Spans.{product}
 use Rattle.desk.proofs.locate.in_base.Statement.{statement}
 use Rattle.desk.proofs.locate.in_base.Tie as tie

@@ -5,11 +5,11 @@ use mathlib.Core.Path.{_≡_, _∙_, sym, ap}
 use native.Mathlib.Omega.{arith}
 use lib.ListN.{length}
 use borrow.Author.Needs.{needs}
-use Rattle.octets.specs.Rows.{row-in}
+use Rattle.octets.specs.laws.Rows.{row-in}
 use Rattle.units.specs.Sizes.{headerLength, indexRow}
 use Rattle.units.specs.Tests.{Test, passes}
 use Rattle.sidefile.specs.Judge.{holds}
-use Rattle.sidefile.specs.Passed.{AllPassed}
+use Rattle.sidefile.specs.inner.Passed.{AllPassed}
 use Rattle.sidefile.specs.declared.Header.{Header}
 use Rattle.desk.specs.Read.{readTests}
 use Rattle.desk.proofs.Followed.{rows-fit, held-indexed}

@@ -2,7 +2,7 @@ use mathlib.Core.Bool.{true, false}
 use mathlib.Core.Path.{_≡_, _∙_, sym}
 use borrow.Author.Needs.{needs}
 use Rattle.units.specs.Tests.{passes}
-use Rattle.desk.specs.Follow.{followTests}
+use Rattle.desk.specs.inner.Follow.{followTests}
 use Rattle.desk.proofs.Followed.{followed, follows}
 use Rattle.desk.proofs.Spans.{follow-refused, span-decides}
 use Rattle.desk.proofs.locate.readable.Statement.{statement}

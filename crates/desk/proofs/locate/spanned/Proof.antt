@@ -6,7 +6,7 @@ use lib.ListN.{length}
 use borrow.Author.Needs.{needs}
 use Rattle.units.specs.Refusals as Refusals
 use Rattle.units.specs.Sizes.{insidePage}
-use Rattle.units.specs.Spans.{span-empty, span-past, span-inside}
+use Rattle.units.specs.laws.Spans.{span-empty, span-past, span-inside}
 use Rattle.units.specs.Tests.{verdict}
 use Rattle.desk.specs.Read.{spanTests}
 use Rattle.desk.proofs.Spans.{product, base-short, page-past, at-span}

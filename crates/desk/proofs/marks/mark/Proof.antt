@@ -4,9 +4,9 @@ use mathlib.Core.Path.{_≡_, refl, _∙_, sym, ap}
 use native.Mathlib.Omega.{arith}
 use lib.ListN.{length, drop, set, length-set}
 use borrow.Author.Needs.{needs}
-use Rattle.octets.specs.Rows.{row-in}
+use Rattle.octets.specs.laws.Rows.{row-in}
 use Rattle.units.specs.Sizes.{headerLength, indexRow}
-use Rattle.sidefile.specs.Table.{entriesAt}
+use Rattle.sidefile.specs.inner.Table.{entriesAt}
 use Rattle.desk.proofs.Raised.{raised, raise-late, raise-early, raise-end, page-in, mark-rows, mark-pages, mark-made}
 use Rattle.desk.proofs.marks.mark.Statement.{statement}
 use Rattle.desk.proofs.marks.mark.Tie as tie

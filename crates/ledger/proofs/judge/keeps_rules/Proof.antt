@@ -5,12 +5,12 @@ use mathlib.Core.Path.{_≡_, _∙_, sym, ap}
 use native.Mathlib.Omega.{arith}
 use borrow.Author.Tests.{not-true, not-false}
 use Rattle.lists.specs.Scans.{allOf}
-use Rattle.octets.specs.Flagging.{flags-clear}
-use Rattle.units.specs.Bounds.{limits-within}
+use Rattle.octets.specs.laws.Flagging.{flags-clear}
+use Rattle.units.specs.laws.Bounds.{limits-within}
 use Rattle.units.specs.Sizes.{placesAt, ledgerLength, places, wait}
-use Rattle.sidefile.specs.Table.{pagesFit, placesFit}
-use Rattle.ledger.specs.Fits.{sits, ticksFit}
-use Rattle.ledger.specs.Read.{entries-indexed}
+use Rattle.sidefile.specs.inner.Table.{pagesFit, placesFit}
+use Rattle.ledger.specs.inner.Fits.{sits, ticksFit}
+use Rattle.ledger.specs.laws.Read.{entries-indexed}
 use Rattle.ledger.specs.View.{indexed, entriesIn}
 use Rattle.ledger.proofs.Judging.{held-judged, judge-pages, judge-ticks, judge-places, judge-all}
 use borrow.Author.Needs.{needs}

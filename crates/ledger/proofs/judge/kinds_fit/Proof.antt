@@ -11,7 +11,7 @@ use Rattle.octets.specs.Rows.{row}
 use Rattle.units.specs.Sizes.{entryRow}
 use Rattle.ledger.specs.declared.Entry.{Entry}
 use Rattle.ledger.specs.Entries.{pageOf}
-use Rattle.ledger.specs.Read.{page-column, every-row}
+use Rattle.ledger.specs.laws.Read.{page-column, every-row}
 use Rattle.ledger.specs.View.{entryOf, entriesIn}
 use Rattle.ledger.proofs.Judging.{entry-stop, entry-turn, entry-end}
 use Rattle.ledger.proofs.judge.kinds_fit.Statement.{statement}

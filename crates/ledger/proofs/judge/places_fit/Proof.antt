@@ -5,11 +5,11 @@ use mathlib.Core.Logic.{⊎-elim}
 use native.Mathlib.Omega.{arith}
 use lib.ListN.{length, getD}
 use Rattle.lists.specs.Below.{below}
-use Rattle.lists.specs.Passes.{allFrom, all-start, all-turn, all-stop, all-end}
+use Rattle.lists.specs.laws.Passes.{allFrom, all-start, all-turn, all-stop, all-end}
 use Rattle.lists.specs.Scans.{allOf}
-use Rattle.octets.specs.Flags.{flags}
+use Rattle.octets.specs.inner.Flags.{flags}
 use Rattle.units.specs.Sizes.{placeRow, places, ledgerLength}
-use Rattle.ledger.specs.Fits.{placeFits}
+use Rattle.ledger.specs.inner.Fits.{placeFits}
 use Rattle.ledger.proofs.Judging.{rowFits, places-judged, place-free, place-late, place-held, place-fits}
 use borrow.Author.Needs.{needs}
 use Rattle.ledger.proofs.judge.places_fit.Statement.{statement}

@@ -8,9 +8,9 @@ use borrow.Author.Tests.{eq-eqb, ne-eqb}
 use lib.Dec.{eqb}
 use lib.ListN.{getD}
 use Rattle.lists.specs.Below.{from, below}
-use Rattle.lists.specs.Passes.{any-more, any-same}
+use Rattle.lists.specs.laws.Passes.{any-more, any-same}
 use Rattle.lists.specs.Scans.{anyOf}
-use Rattle.ledger.specs.Fits.{sits}
+use Rattle.ledger.specs.inner.Fits.{sits}
 use Rattle.ledger.proofs.judge.sits.Statement.{statement}
 use Rattle.ledger.proofs.judge.sits.Tie as tie
 

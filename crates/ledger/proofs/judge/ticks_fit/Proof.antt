@@ -7,7 +7,7 @@ use borrow.Author.Tests.{not-true, not-false}
 use lib.ListN.{drop}
 use Rattle.lists.specs.Scans.{allOf}
 use Rattle.ledger.specs.Entries.{isOwed}
-use Rattle.ledger.specs.Fits.{sits, ticksFit}
+use Rattle.ledger.specs.inner.Fits.{sits, ticksFit}
 use Rattle.ledger.specs.View.{entriesIn}
 use Rattle.ledger.proofs.Judging.{entry-stop, entry-turn, entry-end, entered-late, changed-late, owed-unseated, fit-unowed, fit-seated}
 use Rattle.ledger.proofs.judge.ticks_fit.Statement.{statement}

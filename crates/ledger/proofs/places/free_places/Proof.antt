@@ -4,12 +4,12 @@ use mathlib.Core.Path.{_≡_, _∙_}
 use mathlib.Core.Logic.{⊎-elim}
 use native.Mathlib.Omega.{arith}
 use lib.ListN.{length, length-set}
-use Rattle.octets.specs.Flags.{flags}
-use Rattle.octets.specs.Flagging.{flags-clear}
+use Rattle.octets.specs.inner.Flags.{flags}
+use Rattle.octets.specs.laws.Flagging.{flags-clear}
 use Rattle.units.specs.Sizes as Sizes
 use Rattle.units.specs.Sizes.{placesAt, ledgerLength}
 use Rattle.ledger.specs.Entries.{isReusable}
-use Rattle.ledger.specs.Tables.{heldBy, freeIn}
+use Rattle.ledger.specs.inner.Tables.{heldBy, freeIn}
 use Rattle.ledger.specs.View.{entriesIn}
 use Rattle.ledger.proofs.Giving.{Found, found-none, found-skip, found-take, found-all, found-last, found-count, gives-yes, gives-rests, gives-held}
 use borrow.Author.Needs.{needs}

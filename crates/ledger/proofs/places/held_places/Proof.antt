@@ -4,13 +4,13 @@ use mathlib.Core.Bool.{Bool, false≢true}
 use mathlib.Core.List.{List, map}
 use native.Mathlib.Omega.{arith}
 use lib.ListN.{length, take, drop}
-use Rattle.octets.specs.Flags.{flags}
+use Rattle.octets.specs.inner.Flags.{flags}
 use Rattle.octets.specs.Rows.{row}
 use Rattle.units.specs.Sizes.{entryRow}
-use Rattle.sidefile.specs.Table.{column, entriesAt, placesFit}
+use Rattle.sidefile.specs.inner.Table.{column, entriesAt, placesFit}
 use Rattle.sidefile.proofs.Scans.{fresh, noneMet, fresh-first, fresh-far, fresh-met, fresh-next, fresh-end}
-use Rattle.ledger.specs.Read.{entries-indexed, place-column, entries-whole}
-use Rattle.ledger.specs.Tables.{heldBy}
+use Rattle.ledger.specs.laws.Read.{entries-indexed, place-column, entries-whole}
+use Rattle.ledger.specs.inner.Tables.{heldBy}
 use Rattle.ledger.specs.View.{indexed, entriesIn}
 use Rattle.ledger.proofs.Flagging.{table-bytes}
 use Rattle.ledger.proofs.Placing.{held-none, held-next}

@@ -6,7 +6,7 @@ use mathlib.Core.List.{List}
 use Rattle.octets.specs.Number.{bytes32}
 use Rattle.octets.specs.Part.{lay}
 use Rattle.units.specs.Sizes.{placeRow, placesAt, ledgerLength, wait}
-use Rattle.ledger.specs.Tables.{rowAfter}
+use Rattle.ledger.specs.inner.Tables.{rowAfter}
 use Rattle.ledger.proofs.Placing.{after-retired, after-freed, after-resting}
 use borrow.Author.Needs.{needs}
 use Rattle.ledger.proofs.places.place_after.Statement.{statement}

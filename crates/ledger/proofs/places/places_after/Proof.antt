@@ -2,7 +2,7 @@ use Prim.Native.Nat.{_-_, _*_, _≤_}
 use mathlib.Core.Path.{_≡_, refl, _∙_}
 use native.Mathlib.Omega.{arith}
 use lib.ListN.{length}
-use Rattle.octets.specs.Flags.{flags}
+use Rattle.octets.specs.inner.Flags.{flags}
 use Rattle.units.specs.Sizes.{places}
 use Rattle.ledger.proofs.Placing.{afterUpTo, after-start, after-next}
 use borrow.Author.Needs.{needs}

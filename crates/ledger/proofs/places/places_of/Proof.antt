@@ -4,15 +4,15 @@ use mathlib.Core.List.{List}
 use mathlib.Core.Logic.{⊎-elim}
 use native.Mathlib.Omega.{arith}
 use lib.ListN.{length, take}
-use Rattle.octets.specs.Flags.{flags}
-use Rattle.octets.specs.Flagging.{flags-clear}
+use Rattle.octets.specs.inner.Flags.{flags}
+use Rattle.octets.specs.laws.Flagging.{flags-clear}
 use Rattle.octets.specs.Rows.{row}
 use Rattle.units.specs.Sizes.{entryRow}
 use Rattle.ledger.specs.declared.Entry.{Entry}
 use Rattle.ledger.specs.Entries.{placeOf}
-use Rattle.ledger.specs.Flagged.{picked}
-use Rattle.ledger.specs.Read.{place-column, every-row, entries-whole}
-use Rattle.ledger.specs.Tables.{heldBy}
+use Rattle.ledger.specs.inner.Flagged.{picked}
+use Rattle.ledger.specs.laws.Read.{place-column, every-row, entries-whole}
+use Rattle.ledger.specs.inner.Tables.{heldBy}
 use Rattle.ledger.specs.View.{entryOf, entriesIn}
 use Rattle.ledger.proofs.Placing.{held-none, held-marked, held-unmarked}
 use borrow.Author.Needs.{needs}

@@ -5,7 +5,7 @@ use Rattle.octets.specs.Rows.{row}
 use Rattle.units.specs.Ages as Ages
 use Rattle.units.specs.Ages.{tick}
 use Rattle.units.specs.Sizes.{placeRow, placesAt, ledgerLength, wait}
-use Rattle.sidefile.specs.Table.{column}
+use Rattle.sidefile.specs.inner.Table.{column}
 use Rattle.ledger.proofs.Placing.{rested-free, rested-long}
 use borrow.Author.Needs.{needs}
 use Rattle.ledger.proofs.places.rested.Statement.{statement}

@@ -2,7 +2,7 @@ use mathlib.Core.Path.{_∙_, sym, ap}
 use native.Mathlib.Omega.{arith}
 use Rattle.ledger.specs.declared.Entry.{Entry}
 use Rattle.ledger.specs.Entries.{enteredOr}
-use Rattle.ledger.specs.Read.{entry-some, entry-none}
+use Rattle.ledger.specs.laws.Read.{entry-some, entry-none}
 use borrow.Author.Needs.{needs}
 use Rattle.ledger.proofs.retiring.entered_at.Statement.{statement}
 use Rattle.ledger.proofs.retiring.entered_at.Tie as tie

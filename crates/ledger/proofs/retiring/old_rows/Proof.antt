@@ -5,10 +5,10 @@ use mathlib.Core.Bool.{Bool}
 use mathlib.Core.Logic.{⊎-elim}
 use native.Mathlib.Omega.{arith}
 use lib.ListN.{length, take}
-use Rattle.octets.specs.Flags.{flags}
+use Rattle.octets.specs.inner.Flags.{flags}
 use Rattle.octets.specs.Rows.{row}
 use Rattle.units.specs.Sizes.{entryRow}
-use Rattle.ledger.specs.Changed.{isOld}
+use Rattle.ledger.specs.inner.Changed.{isOld}
 use Rattle.ledger.specs.View.{entryOf}
 use Rattle.ledger.proofs.Flagging.{table-bytes, flaggedUpTo, flagged-none, flagged-yes, flagged-no, flagged-all}
 use borrow.Author.Needs.{needs}

@@ -5,11 +5,11 @@ use mathlib.Core.Logic.{⊎-elim}
 use native.Mathlib.Omega.{arith}
 use lib.ListN.{length, take, getD, length-set}
 use lib.Seq.{getD-take, length-take-le, take-all}
-use Rattle.octets.specs.Flags.{flags}
-use Rattle.sidefile.specs.Table.{position}
-use Rattle.ledger.specs.Changed.{entryTicks}
+use Rattle.octets.specs.inner.Flags.{flags}
+use Rattle.sidefile.specs.inner.Table.{position}
+use Rattle.ledger.specs.inner.Changed.{entryTicks}
 use Rattle.ledger.specs.Entries.{has}
-use Rattle.ledger.specs.Rowed.{length-entriesIn}
+use Rattle.ledger.specs.laws.Rowed.{length-entriesIn}
 use Rattle.ledger.specs.View.{entriesIn}
 use Rattle.ledger.proofs.Flagging.{table-bytes, goes, goes-none, goes-all, goes-marked, goes-unmarked, tick-next}
 use borrow.Author.Needs.{needs}

@@ -1,6 +1,6 @@
 use mathlib.Core.Path.{_∙_, sym}
-use Rattle.octets.specs.Part.{part-zero}
-use Rattle.listing.specs.Kept.{lay-past, lay-room}
+use Rattle.octets.specs.laws.Part.{part-zero}
+use Rattle.listing.specs.laws.Kept.{lay-past, lay-room}
 use borrow.Author.Needs.{needs}
 use Rattle.listing.proofs.input.keep.Statement.{statement}
 use Rattle.listing.proofs.input.keep.Tie as tie

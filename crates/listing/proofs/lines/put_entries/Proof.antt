@@ -6,9 +6,9 @@ use lib.ListN.{length, drop}
 use Rattle.octets.specs.Rows.{row, join}
 use Rattle.units.specs.Sizes.{headerLength, indexRow}
 use Rattle.sidefile.specs.Encode.{indexEntryOf}
-use Rattle.sidefile.specs.Table.{entriesAt, entry-next, entries-end}
+use Rattle.sidefile.specs.inner.Table.{entriesAt, entry-next, entries-end}
 use Rattle.listing.specs.Text.{entryLine, entryLines}
-use Rattle.listing.specs.Written.{Written, written-none, written-as, written-next}
+use Rattle.listing.specs.inner.Written.{Written, written-none, written-as, written-next}
 use Rattle.listing.proofs.lines.put_entries.Statement.{statement}
 use Rattle.listing.proofs.lines.put_entries.Tie as tie
 

@@ -4,11 +4,11 @@ use mathlib.Core.List.{_++_}
 use Rattle.octets.specs.Rows.{row}
 use Rattle.units.specs.Sizes.{headerLength, indexRow}
 use Rattle.sidefile.specs.Encode.{indexEntryOf}
-use Rattle.sidefile.specs.Table.{page-column, place-column, changed-column}
+use Rattle.sidefile.specs.inner.Table.{page-column, place-column, changed-column}
 use Rattle.sidefile.specs.declared.IndexEntry.{IndexEntry}
 use Rattle.listing.specs.Decimal.{decimal}
 use Rattle.listing.specs.Text.{ascii, entryLine}
-use Rattle.listing.specs.Written.{written-next, written-as}
+use Rattle.listing.specs.inner.Written.{written-next, written-as}
 use borrow.Author.Needs.{needs}
 use Rattle.listing.proofs.lines.put_entry.Statement.{statement}
 use Rattle.listing.proofs.lines.put_entry.Tie as tie

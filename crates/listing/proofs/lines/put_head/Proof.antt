@@ -1,5 +1,5 @@
 use Rattle.listing.specs.Text.{ascii, headLine}
-use Rattle.listing.specs.Written.{written-next}
+use Rattle.listing.specs.inner.Written.{written-next}
 use borrow.Author.Needs.{needs}
 use Rattle.listing.proofs.lines.put_head.Statement.{statement}
 use Rattle.listing.proofs.lines.put_head.Tie as tie

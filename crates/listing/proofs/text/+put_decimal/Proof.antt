@@ -1,8 +1,8 @@
 use Prim.Native.Nat.{ℕ, _+_, _<_}
 use native.Mathlib.Omega.{arith}
 use borrow.Author.Needs.{needs}
-use Rattle.listing.specs.Decimal.{decimal-one, decimal-more, decimal-longer, decimal-ten}
-use Rattle.listing.specs.Written.{written-next}
+use Rattle.listing.specs.laws.Decimal.{decimal-one, decimal-more, decimal-longer, decimal-ten}
+use Rattle.listing.specs.inner.Written.{written-next}
 use borrow.Fn.Kinds.{In}
 use borrow.Fn.PlainCycle.{Measures, is, falls, and}
 use Rattle.listing.proofs.text.put_decimal.Reads as put-decimal

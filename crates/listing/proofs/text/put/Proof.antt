@@ -2,7 +2,8 @@ use mathlib.Core.Path.{refl, _∙_, ap}
 use borrow.Author.Needs.{needs}
 use lib.ListN.{length}
 use lib.Seq.{take-length}
-use Rattle.octets.specs.Part.{lay, part-zero}
+use Rattle.octets.specs.Part.{lay}
+use Rattle.octets.specs.laws.Part.{part-zero}
 use Rattle.listing.proofs.text.put.Statement.{statement}
 use Rattle.listing.proofs.text.put.Tie as tie
 

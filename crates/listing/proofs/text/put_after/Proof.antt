@@ -1,4 +1,4 @@
-use Rattle.listing.specs.Written.{written-next}
+use Rattle.listing.specs.inner.Written.{written-next}
 use borrow.Author.Needs.{needs}
 use Rattle.listing.proofs.text.put_after.Statement.{statement}
 use Rattle.listing.proofs.text.put_after.Tie as tie

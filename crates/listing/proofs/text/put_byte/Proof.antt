@@ -1,6 +1,6 @@
 use mathlib.Core.Path.{refl}
 use borrow.Author.Needs.{needs}
-use Rattle.octets.specs.Part.{lay-one}
+use Rattle.octets.specs.laws.Part.{lay-one}
 use Rattle.listing.proofs.text.put_byte.Statement.{statement}
 use Rattle.listing.proofs.text.put_byte.Tie as tie
 

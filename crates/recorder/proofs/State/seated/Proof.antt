@@ -1,4 +1,4 @@
-use Rattle.slots.specs.Asked.{takes-low}
+use Rattle.slots.specs.inner.Asked.{takes-low}
 use borrow.Author.Needs.{needs}
 use Rattle.recorder.proofs.State.seated.Statement.{statement}
 use Rattle.recorder.proofs.State.seated.Tie as tie

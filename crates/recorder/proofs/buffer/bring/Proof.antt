@@ -4,7 +4,7 @@ use native.Mathlib.Omega.{arith}
 use Rattle.octets.specs.Part.{part, lay}
 use borrow.Author.Tests.{not-true, not-false}
 use Rattle.octets.specs.Rows.{row}
-use Rattle.recorder.specs.Using.{broughtTo}
+use Rattle.recorder.specs.inner.Using.{broughtTo}
 use borrow.Author.Needs.{needs}
 use Rattle.recorder.proofs.buffer.bring.Statement.{statement}
 use Rattle.recorder.proofs.buffer.bring.Tie as tie

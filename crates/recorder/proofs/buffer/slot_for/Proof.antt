@@ -1,11 +1,11 @@
 use mathlib.Core.Path.{_≡_, _∙_, sym, ap, subst}
 use mathlib.Core.List.{[]}
-use Rattle.lists.specs.Maps.{length-mapped}
-use Rattle.slots.specs.Answers.{toOption, seating}
-use Rattle.slots.specs.Sits.{Whole}
+use Rattle.lists.specs.laws.Maps.{length-mapped}
+use Rattle.slots.specs.inner.Answers.{toOption, seating}
+use Rattle.slots.specs.laws.Sits.{Whole}
 use Rattle.recorder.specs.Calls.{unclean}
 use Rattle.recorder.specs.Outcome.{lent}
-use Rattle.recorder.specs.Using.{Chosen}
+use Rattle.recorder.specs.inner.Using.{Chosen}
 use Rattle.recorder.specs.World.{World, slotFor}
 use Rattle.recorder.specs.declared.buffer.Use.{Use}
 use Rattle.recorder.proofs.Bringing.{useIn, ruled-within, ruled-used, chosen, use-hit, taking, use-seat}

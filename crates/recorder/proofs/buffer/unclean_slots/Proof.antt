@@ -6,7 +6,7 @@ use mathlib.Core.Logic.{⊎-elim}
 use native.Mathlib.Omega.{arith}
 use borrow.Author.Needs.{needs}
 use lib.ListN.{length, length-set}
-use Rattle.recorder.specs.Facts.{rule-facts}
+use Rattle.recorder.specs.laws.Facts.{rule-facts}
 use Rattle.recorder.specs.Outcome.{lent}
 use Rattle.recorder.specs.World.{entriesOf}
 use Rattle.slots.specs.Table.{pageAt}

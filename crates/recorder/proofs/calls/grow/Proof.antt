@@ -1,7 +1,7 @@
 use native.Mathlib.Omega.{arith}
 use borrow.Author.Tests.{not-true, not-false}
 use Rattle.recorder.specs.Outcome.{lent}
-use Rattle.recorder.specs.Using.{Chosen}
+use Rattle.recorder.specs.inner.Using.{Chosen}
 use Rattle.recorder.specs.World.{World}
 use Rattle.recorder.proofs.Accepted.{Slotted, slotted, Growth, growth, growth-end, growth-asks, growth-kinds, growth-base}
 use Rattle.recorder.proofs.Bringing.{chosen-alone, chosen-takes}

@@ -2,7 +2,7 @@ use mathlib.Core.Path.{_∙_, ap}
 use lib.ListN.{length}
 use borrow.Author.Tests.{not-true, not-false}
 use Rattle.recorder.specs.Outcome.{lent}
-use Rattle.recorder.specs.Using.{Chosen}
+use Rattle.recorder.specs.inner.Using.{Chosen}
 use Rattle.recorder.specs.World.{World}
 use Rattle.recorder.proofs.Accepted.{Slotted, slotted, brought-length, Access, access, access-asks, access-kinds, access-page, access-base, access-buffer}
 use Rattle.recorder.proofs.Bringing.{chosen-alone}

@@ -4,17 +4,17 @@ use mathlib.Core.List.{List}
 use native.Mathlib.Omega.{arith}
 use borrow.Author.Needs.{needs}
 use lib.ListN.{length}
-use Rattle.octets.specs.Flagging.{length-flags}
-use Rattle.octets.specs.Flags.{flags}
+use Rattle.octets.specs.laws.Flagging.{length-flags}
+use Rattle.octets.specs.inner.Flags.{flags}
 use Rattle.octets.specs.Number.{Octets}
 use Rattle.octets.specs.Part.{lay}
-use Rattle.slots.specs.Numbers.{pagesOf}
-use Rattle.ledger.specs.Flagged.{others}
-use Rattle.ledger.specs.Renewed.{Settles, settled}
+use Rattle.slots.specs.inner.Numbers.{pagesOf}
+use Rattle.ledger.specs.inner.Flagged.{others}
+use Rattle.ledger.specs.inner.Renewed.{Settles, settled}
 use Rattle.ledger.specs.View.{entriesIn}
-use Rattle.recorder.specs.Carried.{Carries}
-use Rattle.recorder.specs.Handed.{handed, filed}
-use Rattle.recorder.specs.Planned.{Lists}
+use Rattle.recorder.specs.inner.Carried.{Carries}
+use Rattle.recorder.specs.inner.Handed.{handed, filed}
+use Rattle.recorder.specs.inner.Planned.{Lists}
 use Rattle.recorder.specs.World.{World}
 use Rattle.recorder.proofs.Carrying.{Summed, Left, Anew, limited, flags-enough, places-below, can-settle, can-put, put-anew, few-after, long-after, pages-after, front-in, carried}
 use Rattle.recorder.proofs.close.carry_out.Statement.{statement}

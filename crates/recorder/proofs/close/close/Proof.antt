@@ -5,7 +5,7 @@ use mathlib.Core.Path.{_≡_, refl, _∙_, ap}
 use native.Mathlib.Omega.{arith}
 use borrow.Author.Needs.{needs}
 use Rattle.units.specs.Tests.{passes}
-use Rattle.recorder.specs.Carried.{Closes, Ended}
+use Rattle.recorder.specs.inner.Carried.{Closes, Ended}
 use Rattle.recorder.specs.Close.{openTick, suffices}
 use Rattle.recorder.specs.Outcome.{lent, answered}
 use Rattle.recorder.specs.World.{World}

@@ -4,14 +4,14 @@ use mathlib.Core.List.{List}
 use native.Mathlib.Omega.{arith}
 use borrow.Author.Needs.{needs}
 use borrow.Author.Tests.{not-true, not-false}
-use Rattle.octets.specs.Flagging.{flags-clear}
-use Rattle.octets.specs.Flags.{flags}
+use Rattle.octets.specs.laws.Flagging.{flags-clear}
+use Rattle.octets.specs.inner.Flags.{flags}
 use Rattle.units.specs.declared.Page.{Page}
-use Rattle.slots.specs.Numbers.{pagesOf}
-use Rattle.recorder.specs.Carried.{Closes, Carries, Carried}
+use Rattle.slots.specs.inner.Numbers.{pagesOf}
+use Rattle.recorder.specs.inner.Carried.{Closes, Carries, Carried}
 use Rattle.recorder.specs.Close.{suffices}
-use Rattle.recorder.specs.Handed.{handed, flagged, filed}
-use Rattle.recorder.specs.Planned.{Plans, Lists}
+use Rattle.recorder.specs.inner.Handed.{handed, flagged, filed}
+use Rattle.recorder.specs.inner.Planned.{Plans, Lists}
 use Rattle.recorder.specs.World.{World}
 use Rattle.recorder.proofs.Carrying.{few-closed}
 use Rattle.recorder.proofs.Ending.{ended}

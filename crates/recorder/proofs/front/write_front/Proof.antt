@@ -4,13 +4,14 @@ use mathlib.Core.List.{List, map}
 use native.Mathlib.Omega.{arith}
 use borrow.Author.Needs.{needs}
 use lib.ListN.{length, length-map}
-use Rattle.octets.specs.Part.{lay, length-lay}
-use Rattle.units.specs.Bounds.{limits-within, entries-most}
+use Rattle.octets.specs.Part.{lay}
+use Rattle.octets.specs.laws.Part.{length-lay}
+use Rattle.units.specs.laws.Bounds.{limits-within, entries-most}
 use Rattle.units.specs.Sizes.{headerLength, indexEnd}
 use Rattle.sidefile.specs.Encode.{indexBytes}
-use Rattle.sidefile.specs.Sealed.{sealed, sealed-rows}
+use Rattle.sidefile.specs.inner.Sealed.{sealed, sealed-rows}
 use Rattle.sidefile.specs.declared.IndexEntry.{IndexEntry}
-use Rattle.ledger.specs.Rowed.{length-entriesIn}
+use Rattle.ledger.specs.laws.Rowed.{length-entriesIn}
 use Rattle.ledger.specs.View.{indexed, entriesIn}
 use Rattle.recorder.proofs.front.write_front.Statement.{statement}
 use Rattle.recorder.proofs.front.write_front.Tie as tie

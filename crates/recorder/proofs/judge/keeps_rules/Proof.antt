@@ -4,7 +4,7 @@ use mathlib.Core.Path.{_≡_, _∙_, sym}
 use native.Mathlib.Omega.{arith}
 use lib.ListN.{length}
 use borrow.Author.Tests.{not-true, not-false}
-use Rattle.units.specs.Bounds.{limits-within}
+use Rattle.units.specs.laws.Bounds.{limits-within}
 use Rattle.units.specs.Sizes.{limits, entries, ledgerLength}
 use Rattle.slots.specs.Rules.{slotRules}
 use Rattle.recorder.specs.declared.State.{State}

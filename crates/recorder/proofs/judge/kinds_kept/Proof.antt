@@ -6,15 +6,16 @@ use lib.Dec.{eqb}
 use lib.ListN.{getD}
 use borrow.Author.Tests.{not-true, not-false}
 use Rattle.lists.specs.Below.{below}
-use Rattle.lists.specs.Scans.{allOf, every-map}
-use Rattle.units.specs.Bounds.{limits-within}
+use Rattle.lists.specs.Scans.{allOf}
+use Rattle.lists.specs.laws.Scans.{every-map}
+use Rattle.units.specs.laws.Bounds.{limits-within}
 use Rattle.units.specs.Sizes.{placesAt, ledgerLength}
 use Rattle.ledger.specs.Entries.{pageOf}
 use Rattle.ledger.specs.View.{entriesIn}
 use Rattle.ledger.specs.declared.Entry.{Entry}
-use Rattle.recorder.specs.Facts.{RuleFacts, rule-facts}
+use Rattle.recorder.specs.laws.Facts.{RuleFacts, rule-facts}
 use Rattle.recorder.specs.Outcome.{lent}
-use Rattle.recorder.specs.Seats.{seatFits}
+use Rattle.recorder.specs.inner.Seats.{seatFits}
 use Rattle.recorder.specs.World.{entriesOf}
 use Rattle.recorder.proofs.Passes.{table-below}
 use Rattle.recorder.proofs.Judging.{slots-raw, entries-decide}

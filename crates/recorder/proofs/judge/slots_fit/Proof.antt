@@ -6,9 +6,9 @@ use native.Mathlib.Omega.{arith}
 use borrow.Author.Needs.{needs}
 use borrow.Author.Tests.{eq-eqb, ne-eqb}
 use Rattle.lists.specs.Below.{below}
-use Rattle.lists.specs.Passes.{allFrom, all-start, all-turn, all-stop, all-end}
+use Rattle.lists.specs.laws.Passes.{allFrom, all-start, all-turn, all-stop, all-end}
 use Rattle.lists.specs.Scans.{allOf}
-use Rattle.recorder.specs.Seats.{seatFits}
+use Rattle.recorder.specs.inner.Seats.{seatFits}
 use Rattle.recorder.proofs.Passes.{fits-vacant, fits-kind, page-low}
 use Rattle.recorder.proofs.judge.slots_fit.Statement.{statement}
 use Rattle.recorder.proofs.judge.slots_fit.Tie as tie

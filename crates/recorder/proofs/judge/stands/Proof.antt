@@ -2,7 +2,7 @@ use mathlib.Core.Bool.{true}
 use mathlib.Core.List.{[]}
 use mathlib.Core.Path.{_≡_, _∙_, sym}
 use borrow.Author.Tests.{not-true, not-false}
-use Rattle.recorder.specs.Facts.{rule-facts, long-facts}
+use Rattle.recorder.specs.laws.Facts.{rule-facts, long-facts}
 use Rattle.recorder.specs.Outcome.{lent}
 use Rattle.recorder.specs.Rules.{rules, longEnough}
 use Rattle.recorder.specs.World.{zeroState}

@@ -6,11 +6,11 @@ use native.Mathlib.Omega.{arith}
 use lib.Dec.{eqb, leb}
 use lib.ListN.{length}
 use borrow.Author.Needs.{needs}
-use Rattle.octets.specs.Flags.{flags}
+use Rattle.octets.specs.inner.Flags.{flags}
 use Rattle.units.specs.Sizes.{entries}
-use Rattle.slots.specs.Numbers.{pagesOf}
-use Rattle.recorder.specs.Handed.{handed, flagged}
-use Rattle.recorder.specs.Planned.{Lists, PlansTo}
+use Rattle.slots.specs.inner.Numbers.{pagesOf}
+use Rattle.recorder.specs.inner.Handed.{handed, flagged}
+use Rattle.recorder.specs.inner.Planned.{Lists, PlansTo}
 use Rattle.recorder.specs.World.{World}
 use Rattle.recorder.proofs.Planning.{Asked, asked, going-whole, going-bytes, enough-rows, enough-not, plans}
 use Rattle.recorder.proofs.plan.of_close.Statement.{statement}

@@ -2,7 +2,8 @@ use Prim.Native.Nat.{ℕ, _+_, _*_, _≤_}
 use mathlib.Core.List.{List}
 use mathlib.Core.Path.{_≡_, _∙_, ap₂}
 use lib.ListN.{length}
-use Rattle.octets.specs.Part.{part, lay, lay-whole, length-part}
+use Rattle.octets.specs.Part.{part, lay}
+use Rattle.octets.specs.laws.Part.{lay-whole, length-part}
 use borrow.Author.Needs.{needs}
 use Rattle.recorder.proofs.spans.read_span.Statement.{statement}
 use Rattle.recorder.proofs.spans.read_span.Tie as tie

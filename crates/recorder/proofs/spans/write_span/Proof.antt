@@ -2,7 +2,7 @@ use mathlib.Core.Path.{_∙_}
 use native.Mathlib.Omega.{arith}
 use lib.ListN.{length}
 use lib.Seq.{take-all}
-use Rattle.octets.specs.Part.{part-zero}
+use Rattle.octets.specs.laws.Part.{part-zero}
 use borrow.Author.Needs.{needs}
 use Rattle.recorder.proofs.spans.write_span.Statement.{statement}
 use Rattle.recorder.proofs.spans.write_span.Tie as tie

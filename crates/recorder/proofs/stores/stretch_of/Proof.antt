@@ -3,11 +3,11 @@ use mathlib.Core.Option.{some}
 use mathlib.Core.Path.{_≡_, _∙_, sym, ap}
 use native.Mathlib.Omega.{arith}
 use borrow.Author.Needs.{needs}
-use Rattle.units.specs.Bounds.{limits-within}
-use Rattle.slots.specs.Answers.{toOption}
-use Rattle.slots.specs.Numbers.{pagesOf, tableOf}
+use Rattle.units.specs.laws.Bounds.{limits-within}
+use Rattle.slots.specs.inner.Answers.{toOption}
+use Rattle.slots.specs.inner.Numbers.{pagesOf, tableOf}
 use Rattle.slots.specs.Table.{slotOf}
-use Rattle.recorder.specs.Stretches.{stretchAt}
+use Rattle.recorder.specs.inner.Stretches.{stretchAt}
 use Rattle.recorder.proofs.Copying.{stretch-found, stretch-none, stretch-fits}
 use Rattle.recorder.proofs.stores.stretch_of.Statement.{statement}
 use Rattle.recorder.proofs.stores.stretch_of.Tie as tie

@@ -5,14 +5,14 @@ use native.Mathlib.Omega.{arith}
 use borrow.Author.Needs.{needs}
 use lib.ListN.{length, drop}
 use Rattle.units.specs.Sizes.{entryRow}
-use Rattle.slots.specs.Numbers.{pagesOf}
+use Rattle.slots.specs.inner.Numbers.{pagesOf}
 use Rattle.ledger.specs.Entries.{pageOf}
-use Rattle.ledger.specs.Read.{every-row}
-use Rattle.ledger.specs.Renewed.{isDueNow}
+use Rattle.ledger.specs.laws.Read.{every-row}
+use Rattle.ledger.specs.inner.Renewed.{isDueNow}
 use Rattle.ledger.specs.View.{entriesIn}
 use Rattle.ledger.specs.declared.Entry.{Entry}
-use Rattle.recorder.specs.Handed.{shown}
-use Rattle.recorder.specs.Stretches.{dueLaid}
+use Rattle.recorder.specs.inner.Handed.{shown}
+use Rattle.recorder.specs.inner.Stretches.{dueLaid}
 use Rattle.recorder.proofs.Copying.{Row, copied-in, page-in, page-most, due-laid, due-skip, due-end}
 use Rattle.recorder.proofs.stores.write_due.Statement.{statement}
 use Rattle.recorder.proofs.stores.write_due.Tie as tie

@@ -3,9 +3,9 @@ use mathlib.Core.Path.{_≡_, refl, sym}
 use native.Mathlib.Omega.{arith}
 use borrow.Author.Needs.{needs}
 use lib.ListN.{length, take, length-set}
-use Rattle.slots.specs.Numbers.{pagesOf}
-use Rattle.recorder.specs.Handed.{shown}
-use Rattle.recorder.specs.Stretches.{imagesLaid, imageSums}
+use Rattle.slots.specs.inner.Numbers.{pagesOf}
+use Rattle.recorder.specs.inner.Handed.{shown}
+use Rattle.recorder.specs.inner.Stretches.{imagesLaid, imageSums}
 use Rattle.recorder.specs.World.{World}
 use Rattle.recorder.proofs.Copying.{copied-in, copied-most, copied-sum, place-in, place-get, images-none, image-laid, sums-none, sums-next}
 use Rattle.recorder.proofs.stores.write_images.Statement.{statement}

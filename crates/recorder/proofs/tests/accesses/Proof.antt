@@ -1,5 +1,5 @@
 use mathlib.Core.Path.{_∙_}
-use Rattle.units.specs.Tests.{stopped}
+use Rattle.units.specs.laws.Tests.{stopped}
 use Rattle.recorder.specs.Calls.{spanTests}
 use Rattle.recorder.specs.Outcome.{lent}
 use Rattle.recorder.specs.Rules.{standing}

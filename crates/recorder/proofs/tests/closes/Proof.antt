@@ -1,9 +1,10 @@
 use mathlib.Core.Path.{_≡_, _∙_}
 use native.Mathlib.Omega.{arith}
-use Rattle.units.specs.Tests.{verdict, stopped}
+use Rattle.units.specs.Tests.{verdict}
+use Rattle.units.specs.laws.Tests.{stopped}
 use Rattle.recorder.specs.Outcome.{lent}
 use Rattle.recorder.specs.Rules.{standing}
-use Rattle.recorder.specs.Tests.{lastTick, earlyTests}
+use Rattle.recorder.specs.inner.Tests.{lastTick, earlyTests}
 use Rattle.recorder.specs.World.{World}
 use Rattle.recorder.proofs.Testing.{stands-behind, tick-last, tick-good}
 use borrow.Author.Needs.{needs}

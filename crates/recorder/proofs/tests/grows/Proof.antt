@@ -1,9 +1,10 @@
 use mathlib.Core.Path.{_≡_, _∙_}
-use Rattle.units.specs.Tests.{verdict, stopped}
+use Rattle.units.specs.Tests.{verdict}
+use Rattle.units.specs.laws.Tests.{stopped}
 use Rattle.recorder.specs.Calls.{growTests}
 use Rattle.recorder.specs.Outcome.{lent}
 use Rattle.recorder.specs.Rules.{standing}
-use Rattle.recorder.specs.Tests.{growthTests}
+use Rattle.recorder.specs.inner.Tests.{growthTests}
 use Rattle.recorder.specs.World.{World}
 use Rattle.recorder.proofs.Testing.{stands-behind, grow-unknown, grow-full, grow-good}
 use borrow.Author.Needs.{needs}

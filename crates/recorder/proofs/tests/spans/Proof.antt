@@ -5,7 +5,7 @@ use native.Mathlib.Omega.{arith}
 use lib.ListN.{getD}
 use Rattle.units.specs.Refusals as Refusals
 use Rattle.units.specs.Sizes.{insidePage}
-use Rattle.units.specs.Spans.{span-empty, span-past, span-inside}
+use Rattle.units.specs.laws.Spans.{span-empty, span-past, span-inside}
 use Rattle.units.specs.Tests.{verdict}
 use Rattle.recorder.proofs.Testing.{page-past, kind-unknown, spanned, at-span}
 use borrow.Author.Needs.{needs}

@@ -6,7 +6,7 @@ use Rattle.octets.specs.Part.{part, lay}
 use Rattle.units.specs.Sizes.{headerLength, indexRow}
 use Rattle.sidefile.specs.declared.Header.{Header}
 use Rattle.sidefile.specs.Encode.{checksum, headerBytes}
-use Rattle.sidefile.specs.Sealed.{sealed}
+use Rattle.sidefile.specs.inner.Sealed.{sealed}
 use borrow.Author.Needs.{needs}
 use Rattle.sidefile.proofs.encode.seal.Statement.{statement}
 use Rattle.sidefile.proofs.encode.seal.Tie as tie

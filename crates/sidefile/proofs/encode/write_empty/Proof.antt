@@ -2,9 +2,10 @@ use Prim.Native.Nat.{ℕ, _*_}
 use mathlib.Core.Path.{_∙_, ap}
 use native.Mathlib.Omega.{arith}
 use lib.ListN.{replicate}
-use Rattle.octets.specs.Part.{lay, length-lay}
+use Rattle.octets.specs.Part.{lay}
+use Rattle.octets.specs.laws.Part.{length-lay}
 use Rattle.units.specs.Sizes.{headerLength, indexRow, indexEnd}
-use Rattle.sidefile.specs.Sealed.{sealed, sealed-empty}
+use Rattle.sidefile.specs.inner.Sealed.{sealed, sealed-empty}
 use borrow.Author.Needs.{needs}
 use Rattle.sidefile.proofs.encode.write_empty.Statement.{statement}
 use Rattle.sidefile.proofs.encode.write_empty.Tie as tie

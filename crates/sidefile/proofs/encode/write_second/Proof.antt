@@ -1,6 +1,6 @@
 use mathlib.Core.Path.{refl}
 use Rattle.octets.specs.Number.{bytes}
-use Rattle.sidefile.specs.Sealed.{secondBytes}
+use Rattle.sidefile.specs.inner.Sealed.{secondBytes}
 use Rattle.sidefile.proofs.Laying.{next}
 use borrow.Author.Needs.{needs}
 use Rattle.sidefile.proofs.encode.write_second.Statement.{statement}

@@ -9,11 +9,11 @@ use borrow.Author.Tests.{le-leb, lt-leb, eq-eqb, ne-eqb}
 use Rattle.lists.specs.Scans.{done, more}
 use Rattle.octets.specs.Number.{le16, le32}
 use Rattle.units.specs.Sizes.{limits, entries}
-use Rattle.units.specs.Tests.{fails-at, passes-last}
+use Rattle.units.specs.laws.Tests.{fails-at, passes-last}
 use Rattle.sidefile.specs.declared.Header.{Header}
 use Rattle.sidefile.specs.Encode.{checksum, headerOf}
 use Rattle.sidefile.specs.Judge.{headerTests}
-use Rattle.sidefile.specs.Passed.{asks}
+use Rattle.sidefile.specs.inner.Passed.{asks}
 use borrow.Author.Needs.{needs}
 use Rattle.sidefile.proofs.Answers.{yes, no}
 use Rattle.sidefile.proofs.headers.header_passes.Statement.{statement}

@@ -3,10 +3,11 @@ use mathlib.Core.Path.{_≡_, _∙_, sym}
 use mathlib.Core.Bool.{true}
 use mathlib.Core.List.{List}
 use lib.ListN.{length}
-use Rattle.lists.specs.Bools.{and-left, and-true}
-use Rattle.units.specs.Tests.{passes, passes-and}
+use Rattle.lists.specs.laws.Bools.{and-left, and-true}
+use Rattle.units.specs.Tests.{passes}
+use Rattle.units.specs.laws.Tests.{passes-and}
 use Rattle.sidefile.specs.Judge.{markTests, headerTests, heldTests, holds}
-use Rattle.sidefile.specs.Passed.{mark-length, indexed-held}
+use Rattle.sidefile.specs.inner.Passed.{mark-length, indexed-held}
 use borrow.Author.Needs.{needs}
 use Rattle.sidefile.proofs.Answers.{yes, no}
 use Rattle.sidefile.proofs.judge.held_passes.Statement.{statement}

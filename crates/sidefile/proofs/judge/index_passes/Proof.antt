@@ -6,12 +6,13 @@ use native.Mathlib.Omega.{arith}
 use Rattle.lists.specs.Scans.{done, more}
 use Rattle.octets.specs.Part.{part}
 use Rattle.units.specs.Sizes.{headerLength, indexRow, entries, places, indexEnd}
-use Rattle.units.specs.Tests.{passes, fails-at, passes-last}
+use Rattle.units.specs.Tests.{passes}
+use Rattle.units.specs.laws.Tests.{fails-at, passes-last}
 use Rattle.sidefile.specs.declared.Header.{Header}
 use Rattle.sidefile.specs.declared.IndexEntry.{IndexEntry}
 use Rattle.sidefile.specs.Encode.{checksum}
 use Rattle.sidefile.specs.Judge.{indexTests}
-use Rattle.sidefile.specs.Table.{entriesAt, pagesFit, placesFit, changesFit}
+use Rattle.sidefile.specs.inner.Table.{entriesAt, pagesFit, placesFit, changesFit}
 use Rattle.sidefile.proofs.Answers.{yes, no}
 use Rattle.sidefile.proofs.Index.{Reads, reads, grouped, regrouped}
 use borrow.Author.Needs.{needs}

@@ -2,9 +2,10 @@ use Prim.Native.Nat.{ℕ}
 use mathlib.Core.Path.{_≡_, _∙_, sym}
 use mathlib.Core.Bool.{true}
 use mathlib.Core.List.{List}
-use Rattle.units.specs.Tests.{passes, verdict-passes, passes-append, verdict-before, verdict-behind}
+use Rattle.units.specs.Tests.{passes}
+use Rattle.units.specs.laws.Tests.{verdict-passes, passes-append, verdict-before, verdict-behind}
 use Rattle.sidefile.specs.Judge.{markTests}
-use Rattle.sidefile.specs.Passed.{mark-length, mark-refused, header-refused}
+use Rattle.sidefile.specs.inner.Passed.{mark-length, mark-refused, header-refused}
 use borrow.Author.Needs.{needs}
 use Rattle.sidefile.proofs.Answers.{yes, no}
 use Rattle.sidefile.proofs.judge.judge_header.Statement.{statement}

@@ -3,8 +3,8 @@ use mathlib.Core.Path.{_≡_, refl, _∙_, sym}
 use native.Mathlib.Omega.{arith}
 use borrow.Author.Needs.{needs}
 use lib.ListN.{drop}
-use Rattle.octets.specs.Rows.{row-in}
-use Rattle.sidefile.specs.Table.{entriesAt, pagesFit}
+use Rattle.octets.specs.laws.Rows.{row-in}
+use Rattle.sidefile.specs.inner.Table.{entriesAt, pagesFit}
 use Rattle.sidefile.proofs.Scans.{rising, rising-low, rising-far, rising-next, rising-end}
 use Rattle.sidefile.proofs.rows.ascending_below.Statement.{statement}
 use Rattle.sidefile.proofs.rows.ascending_below.Tie as tie

@@ -3,8 +3,8 @@ use mathlib.Core.Path.{_≡_, refl, _∙_, sym}
 use native.Mathlib.Omega.{arith}
 use borrow.Author.Needs.{needs}
 use lib.ListN.{drop}
-use Rattle.octets.specs.Rows.{row-in}
-use Rattle.sidefile.specs.Table.{entriesAt, changesFit}
+use Rattle.octets.specs.laws.Rows.{row-in}
+use Rattle.sidefile.specs.inner.Table.{entriesAt, changesFit}
 use Rattle.sidefile.proofs.Scans.{changed-late, changed-next, changed-end}
 use Rattle.sidefile.proofs.rows.changes_by.Statement.{statement}
 use Rattle.sidefile.proofs.rows.changes_by.Tie as tie

@@ -1,6 +1,6 @@
 use borrow.Author.Needs.{needs}
 use Rattle.sidefile.specs.Encode.{indexEntryOf}
-use Rattle.sidefile.specs.Table.{column}
+use Rattle.sidefile.specs.inner.Table.{column}
 use Rattle.sidefile.proofs.rows.entry.Statement.{statement}
 use Rattle.sidefile.proofs.rows.entry.Tie as tie
 

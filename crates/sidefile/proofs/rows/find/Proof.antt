@@ -4,8 +4,9 @@ use mathlib.Core.Path.{_≡_}
 use native.Mathlib.Omega.{arith}
 use borrow.Author.Needs.{needs}
 use lib.ListN.{drop}
-use Rattle.octets.specs.Rows.{row, row-in}
-use Rattle.sidefile.specs.Table.{entriesAt, ofPage, position}
+use Rattle.octets.specs.Rows.{row}
+use Rattle.octets.specs.laws.Rows.{row-in}
+use Rattle.sidefile.specs.inner.Table.{entriesAt, ofPage, position}
 use Rattle.sidefile.proofs.rows.find.Statement.{statement}
 use Rattle.sidefile.proofs.rows.find.Tie as tie
 

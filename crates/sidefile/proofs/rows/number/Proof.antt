@@ -1,5 +1,5 @@
 use mathlib.Core.Path.{_∙_, sym}
-use Rattle.sidefile.specs.Table.{column-at}
+use Rattle.sidefile.specs.inner.Table.{column-at}
 use borrow.Author.Needs.{needs}
 use Rattle.sidefile.proofs.rows.number.Statement.{statement}
 use Rattle.sidefile.proofs.rows.number.Tie as tie

@@ -5,10 +5,11 @@ use mathlib.Core.Path.{_≡_, refl, _∙_, sym, ap}
 use native.Mathlib.Omega.{arith}
 use borrow.Author.Needs.{needs}
 use lib.ListN.{length, drop}
-use Rattle.octets.specs.Flags.{flags}
-use Rattle.octets.specs.Flagging.{flags-clear}
-use Rattle.octets.specs.Rows.{row, row-in}
-use Rattle.sidefile.specs.Table.{column, entriesAt, placesFit}
+use Rattle.octets.specs.inner.Flags.{flags}
+use Rattle.octets.specs.laws.Flagging.{flags-clear}
+use Rattle.octets.specs.Rows.{row}
+use Rattle.octets.specs.laws.Rows.{row-in}
+use Rattle.sidefile.specs.inner.Table.{column, entriesAt, placesFit}
 use Rattle.sidefile.proofs.Scans.{fresh, noneMet, fresh-first, fresh-far, fresh-met, fresh-next, fresh-end}
 use Rattle.sidefile.proofs.rows.places_apart.Statement.{statement}
 use Rattle.sidefile.proofs.rows.places_apart.Tie as tie

@@ -1,6 +1,6 @@
 use mathlib.Core.Path.{_∙_, ap}
 use Rattle.slots.specs.Table.{evicted, pageAt}
-use Rattle.slots.specs.Answers.{fresh, relisted}
+use Rattle.slots.specs.inner.Answers.{fresh, relisted}
 use borrow.Author.Needs.{needs}
 use Rattle.slots.proofs.Slots.evict.Statement.{statement}
 use Rattle.slots.proofs.Slots.evict.Tie as tie

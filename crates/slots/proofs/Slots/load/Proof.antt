@@ -3,10 +3,10 @@ use mathlib.Core.Path.{_≡_, _∙_, ap}
 use mathlib.Core.List.{List}
 use native.Mathlib.Omega.{arith}
 use lib.ListN.{length}
-use Rattle.lists.specs.Maps.{length-mapped}
+use Rattle.lists.specs.laws.Maps.{length-mapped}
 use Rattle.units.specs.declared.Page.{Page}
 use Rattle.slots.specs.Table.{setOrder, loaded, uses}
-use Rattle.slots.specs.Answers.{fresh}
+use Rattle.slots.specs.inner.Answers.{fresh}
 use Rattle.slots.proofs.Listing.{set-last}
 use borrow.Author.Needs.{needs}
 use Rattle.slots.proofs.Slots.load.Statement.{statement}

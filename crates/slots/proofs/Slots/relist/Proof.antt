@@ -4,11 +4,11 @@ use mathlib.Core.List.{List}
 use native.Mathlib.Omega.{arith}
 use borrow.Author.Needs.{needs}
 use lib.ListN.{length, length-set}
-use Rattle.lists.specs.Maps.{length-mapped}
-use Rattle.units.specs.Pages.{numbersOf}
+use Rattle.lists.specs.laws.Maps.{length-mapped}
+use Rattle.units.specs.inner.Pages.{numbersOf}
 use Rattle.units.specs.declared.Page.{Page}
 use Rattle.slots.specs.Table.{setOrder, times, uses}
-use Rattle.slots.specs.Answers.{relisted}
+use Rattle.slots.specs.inner.Answers.{relisted}
 use Rattle.slots.proofs.Listing.{moving, moving-start, moving-step, moving-stop, times-step}
 use Rattle.slots.proofs.Slots.relist.Statement.{statement}
 use Rattle.slots.proofs.Slots.relist.Tie as tie

@@ -2,7 +2,7 @@ use mathlib.Core.Path.{_≡_, _∙_, sym, ap}
 use mathlib.Core.Option.{none}
 use borrow.Author.Needs.{needs}
 use Rattle.slots.specs.Table.{lowestEmpty, seatIn, seated}
-use Rattle.slots.specs.Answers.{toOption}
+use Rattle.slots.specs.inner.Answers.{toOption}
 use Rattle.slots.proofs.Slots.seat.Statement.{statement}
 use Rattle.slots.proofs.Slots.seat.Tie as tie
 

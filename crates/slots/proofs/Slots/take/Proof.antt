@@ -1,5 +1,5 @@
 use mathlib.Core.Path.{_∙_}
-use Rattle.slots.specs.Answers.{taken}
+use Rattle.slots.specs.inner.Answers.{taken}
 use Rattle.slots.proofs.Slots.take.Statement.{statement}
 use Rattle.slots.proofs.Slots.take.Tie as tie
 

@@ -1,5 +1,5 @@
 use Rattle.slots.specs.Table.{touched}
-use Rattle.slots.specs.Answers.{relisted}
+use Rattle.slots.specs.inner.Answers.{relisted}
 use borrow.Author.Needs.{needs}
 use Rattle.slots.proofs.Slots.touch.Statement.{statement}
 use Rattle.slots.proofs.Slots.touch.Tie as tie

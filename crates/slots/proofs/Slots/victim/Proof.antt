@@ -4,7 +4,7 @@ use mathlib.Core.Bool.{false}
 use native.Mathlib.Omega.{arith}
 use borrow.Author.Needs.{needs}
 use lib.ListN.{length, getD}
-use Rattle.lists.specs.Maps.{length-mapped}
+use Rattle.lists.specs.laws.Maps.{length-mapped}
 use Rattle.slots.specs.Table.{slotOf, victim}
 use Rattle.slots.proofs.Turns.{slotFrom, slot-start, slot-here, slot-next, slot-end, victimFrom, victim-start, victim-end, victim-absent, victim-spared, victim-here}
 use Rattle.slots.proofs.Slots.victim.Statement.{statement}

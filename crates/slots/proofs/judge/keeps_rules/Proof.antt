@@ -5,12 +5,12 @@ use borrow.Author.Needs.{needs}
 use borrow.Author.Tests.{le-leb, lt-leb, not-true, not-false}
 use lib.Dec.{leb}
 use Rattle.lists.specs.Below.{below}
-use Rattle.lists.specs.Maps.{length-mapped}
+use Rattle.lists.specs.laws.Maps.{length-mapped}
 use Rattle.lists.specs.Scans.{allOf}
-use Rattle.units.specs.Pages.{numbersOf}
+use Rattle.units.specs.inner.Pages.{numbersOf}
 use Rattle.slots.specs.Table.{slotsOf, uses}
 use Rattle.slots.specs.Rules.{slotRules}
-use Rattle.slots.specs.Judged.{rowKept, useKept}
+use Rattle.slots.specs.inner.Judged.{rowKept, useKept}
 use Rattle.slots.specs.declared.Slots.{Slots}
 use Rattle.slots.proofs.Counted.{judged}
 use Rattle.slots.proofs.judge.keeps_rules.Statement.{statement}

@@ -6,9 +6,9 @@ use native.Mathlib.Omega.{arith}
 use borrow.Author.Needs.{needs}
 use borrow.Author.Tests.{eq-eqb, ne-eqb}
 use Rattle.lists.specs.Below.{below}
-use Rattle.lists.specs.Passes.{allFrom, all-start, all-stop, all-turn, all-end}
+use Rattle.lists.specs.laws.Passes.{allFrom, all-start, all-stop, all-turn, all-end}
 use Rattle.lists.specs.Scans.{allOf}
-use Rattle.slots.specs.Judged.{rowKept}
+use Rattle.slots.specs.inner.Judged.{rowKept}
 use Rattle.slots.specs.Table.{slotsOf}
 use Rattle.slots.specs.declared.Slots.{Slots}
 use Rattle.slots.proofs.Turns.{row-empty, row-marked, row-past, row-counted}

@@ -4,8 +4,8 @@ use mathlib.Core.Logic.{⊎-elim}
 use native.Mathlib.Omega.{arith}
 use borrow.Author.Needs.{needs}
 use lib.ListN.{length, drop}
-use Rattle.lists.specs.Maps.{length-mapped}
-use Rattle.units.specs.Pages.{numbersOf}
+use Rattle.lists.specs.laws.Maps.{length-mapped}
+use Rattle.units.specs.inner.Pages.{numbersOf}
 use Rattle.slots.specs.Table.{times}
 use Rattle.slots.proofs.Turns.{times-end, times-this, times-past, times-other}
 use Rattle.slots.proofs.judge.times.Statement.{statement}

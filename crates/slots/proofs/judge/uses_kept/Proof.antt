@@ -5,10 +5,10 @@ use native.Mathlib.Omega.{arith}
 use borrow.Author.Needs.{needs}
 use borrow.Author.Tests.{eq-eqb, ne-eqb, lt-ltb, le-ltb}
 use lib.ListN.{length, drop}
-use Rattle.lists.specs.Maps.{length-mapped}
+use Rattle.lists.specs.laws.Maps.{length-mapped}
 use Rattle.lists.specs.Scans.{allOf}
-use Rattle.units.specs.Pages.{numbersOf}
-use Rattle.slots.specs.Judged.{useKept}
+use Rattle.units.specs.inner.Pages.{numbersOf}
+use Rattle.slots.specs.inner.Judged.{useKept}
 use Rattle.slots.proofs.Turns.{uses-here, uses-next, uses-end}
 use Rattle.slots.proofs.judge.uses_kept.Statement.{statement}
 use Rattle.slots.proofs.judge.uses_kept.Tie as tie

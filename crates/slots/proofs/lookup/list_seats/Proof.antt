@@ -3,8 +3,8 @@ use mathlib.Core.Path.{_≡_, refl}
 use native.Mathlib.Omega.{arith}
 use borrow.Author.Needs.{needs}
 use lib.ListN.{length, take, length-set}
-use Rattle.lists.specs.Maps.{length-mapped}
-use Rattle.units.specs.Pages.{numbersOf}
+use Rattle.lists.specs.laws.Maps.{length-mapped}
+use Rattle.units.specs.inner.Pages.{numbersOf}
 use Rattle.slots.proofs.Listing.{seats-next, seats-all}
 use Rattle.slots.proofs.lookup.list_seats.Statement.{statement}
 use Rattle.slots.proofs.lookup.list_seats.Tie as tie

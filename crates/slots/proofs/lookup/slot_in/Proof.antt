@@ -3,7 +3,7 @@ use mathlib.Core.List.{[]}
 use mathlib.Core.Path.{_≡_, _∙_, sym}
 use native.Mathlib.Omega.{arith}
 use borrow.Author.Needs.{needs}
-use Rattle.slots.specs.Numbers.{pagesOf, tableOf, seat-is}
+use Rattle.slots.specs.inner.Numbers.{pagesOf, tableOf, seat-is}
 use Rattle.slots.specs.Table.{slotOf}
 use Rattle.slots.proofs.Turns.{slotFrom, slot-start, slot-here, slot-next, slot-end}
 use Rattle.slots.proofs.lookup.slot_in.Statement.{statement}

@@ -1,7 +1,7 @@
 use Prim.Native.Nat.{_+_, _-_, _*_, _/_}
 use mathlib.Core.Path.{_≡_}
 use native.Mathlib.Omega.{arith}
-use Rattle.units.specs.Bounds.{limits-within, firstImage-most}
+use Rattle.units.specs.laws.Bounds.{limits-within, firstImage-most}
 use Rattle.units.specs.Sizes.{firstImage}
 use borrow.Author.Needs.{needs}
 use Rattle.units.proofs.Settings.first_image.Statement.{statement}

@@ -1,7 +1,7 @@
 use Prim.Native.Nat.{_*_}
 use mathlib.Core.Path.{_≡_}
 use native.Mathlib.Omega.{arith}
-use Rattle.units.specs.Bounds.{limits-within, pages-most}
+use Rattle.units.specs.laws.Bounds.{limits-within, pages-most}
 use Rattle.units.specs.Sizes.{imageAt}
 use borrow.Author.Needs.{needs}
 use Rattle.units.proofs.Settings.image_at.Statement.{statement}

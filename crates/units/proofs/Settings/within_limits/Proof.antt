@@ -1,7 +1,7 @@
 use mathlib.Core.Path.{_≡_, sym, _∙_}
 use mathlib.Core.Bool.{true}
 use borrow.Author.Tests.{not-true, not-false}
-use Rattle.units.specs.Bounds.{limits-size, limits-slots, limits-lag, limits-capacity}
+use Rattle.units.specs.laws.Bounds.{limits-size, limits-slots, limits-lag, limits-capacity}
 use Rattle.units.specs.Sizes.{pageSize, between}
 use borrow.Author.Needs.{needs}
 use Rattle.units.proofs.Settings.within_limits.Statement.{statement}

@@ -1,5 +1,5 @@
 use native.Mathlib.Omega.{arith}
-use Rattle.units.specs.Ages.{due-now, due-past, due-not-yet}
+use Rattle.units.specs.laws.Ages.{due-now, due-past, due-not-yet}
 use mathlib.Core.Path.{sym}
 use borrow.Author.Needs.{needs}
 use Rattle.units.proofs.Tick.due.Statement.{statement}

@@ -1,0 +1,4 @@
+-- What the contracts of inner functions cite, and the laws about it. No public contract cites it.
+pub mod Follow
+pub mod Marks
+pub mod Span

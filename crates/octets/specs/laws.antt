@@ -1,0 +1,5 @@
+-- What is proved of the definitions in specs/. Nothing here has to be believed.
+pub mod Flagging
+pub mod Number
+pub mod Part
+pub mod Rows

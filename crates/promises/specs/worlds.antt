@@ -1,0 +1,21 @@
+-- What every world has that a recording reaches: it keeps the rules, its slots and files agree, and each call leaves it so.
+pub mod Changing
+pub mod Contents
+pub mod Encoded
+pub mod Frames
+pub mod Fronts
+pub mod Good
+pub mod Growing
+pub mod Holds
+pub mod Nexts
+pub mod Opened
+pub mod Puts
+pub mod Quieted
+pub mod Reached
+pub mod Reading
+pub mod Settled
+pub mod Stepped
+pub mod Steps
+pub mod Unbroken
+pub mod Ways
+pub mod Writing

@@ -1,0 +1,5 @@
+-- What is proved of the definitions in specs/. Nothing here has to be believed.
+pub mod Asked
+pub mod Closed
+pub mod Facts
+pub mod Stored

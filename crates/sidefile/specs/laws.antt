@@ -1,0 +1,5 @@
+-- What is proved of the definitions in specs/. Nothing here has to be believed.
+pub mod Accept
+pub mod Decode
+pub mod Lengths
+pub mod Tells
