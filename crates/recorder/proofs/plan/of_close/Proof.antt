@@ -32,6 +32,9 @@ freed c = c .before .before .before .before
 abbrev left : tie.After-staying-arg → tie.After-retiring-rows
 left c = c .before .before .before
 
+abbrev first : tie.After-retiring-rows → tie.After-wide
+first c = counted (listed (freed (c .before)))
+
 -- the bytes of the flags, once they are set
 abbrev going : tie.After-retiring-rows → List ℕ
 going c = c .retiring-rows .last .1 .1 .1 .1 .1 .1 .0
@@ -71,19 +74,19 @@ retiring-rows-requires c κs =
     (q .rows, q .few, p .changed-pages .ensures .1, p .changed-pages .ensures .0, q .ascends, start n .pre .0 .0, start n .pre .0 .3)
 
 -- the flags are as many as they were
-bytes : (c : tie.After-retiring-rows) → length (going c) ≡ length (start (counted (listed (freed (c .before)))) .args .going .now)
+bytes : (c : tie.After-retiring-rows) → length (going c) ≡ length (start (first c) .args .going .now)
 bytes c = c .retiring-rows .kept .1 .1 .1 .1 .1 .1 .0
 
 staying-requires : tie.Need-staying-requires
 staying-requires c κs =
-    let n = counted (listed (freed (left c .before))) in
+    let n = first (left c) in
     omega (arith, ruled n .few, going-bytes (start n .args .going .now) (going (left c)) (start n .pre .0 .0) (bytes (left c)))
 
 add-later : tie.Need-add-later
 add-later c = search needs
 
 entries-requires : tie.Need-entries-requires
-entries-requires c κs = ruled (counted (listed (freed (left (c .before .before) .before)))) .limited
+entries-requires c κs = ruled (first (left (c .before .before))) .limited
 
 -- what stands in the lists then
 abbrev lists : tie.After-retiring-rows → Lists
@@ -100,10 +103,8 @@ lists c =
 -- the plan, by its answer whether there is enough
 made : (c : tie.After-staying) (w : World) (enough : Bool)
     → (let r = left (c .before) in
-    enough
-    ≡ (eqb (freed (r .before) .free-places .result) (lists r .count) && leb (c .staying .result + lists r .count) (entries (start (counted (listed (freed (r .before)))) .args .settings))))
-    → (let r = left (c .before) in
-    PlansTo (given (start (counted (listed (freed (r .before))))) w) (start (counted (listed (freed (r .before)))) .args .tick) enough (lists r))
+    enough ≡ (eqb (freed (r .before) .free-places .result) (lists r .count) && leb (c .staying .result + lists r .count) (entries (start (first r) .args .settings))))
+    → (let r = left (c .before) in PlansTo (given (start (first r)) w) (start (first r) .args .tick) enough (lists r))
 made c w enough e =
     let r = left (c .before) in
     let f = freed (r .before) in
