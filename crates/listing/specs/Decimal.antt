@@ -1,5 +1,4 @@
--- A number in decimal, as ASCII bytes: its digits, read back, give the number, and the first is a zero for 0 alone. Assumes
--- nothing.
+-- A number in decimal, as ASCII bytes.
 use Prim.Native.Nat.{ℕ, zero, suc, _+_, _-_, _*_, _/_, _%_}
 use mathlib.Core.List.{List, [], _∷_, _++_}
 use lib.Dec.{ltb}

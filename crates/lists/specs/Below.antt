@@ -1,4 +1,4 @@
--- Numbers in a row, and lists that rise. Scans over `below n` are ascending by construction. Assumes nothing.
+-- Numbers in a row, and lists that rise. Scans over `below n` are ascending by construction.
 use Prim.Native.Nat.{ℕ, zero, suc, _≤_}
 use mathlib.Core.List.{List, [], _∷_}
 

@@ -1,4 +1,4 @@
--- Truth values: a choice by one, and what a conjunction or a disjunction says of its parts. Assumes nothing.
+-- A choice by a truth value.
 use mathlib.Core.Bool.{Bool, true, false}
 
 abbrev pub if-then : {X : Type 0} → Bool → X → X → X

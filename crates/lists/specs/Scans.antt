@@ -1,5 +1,5 @@
 -- Scans of a list: the elements that pass a test, whether some or all do, the first that does; facts that hold of every
--- element, with laws like those of sets, so that membership is never needed. Assumes nothing.
+-- element, so that membership is never needed.
 use mathlib.Core.List.{List, [], _∷_}
 use mathlib.Core.Bool.{Bool, true, false, _&&_, _||_}
 use mathlib.Core.Option.{Option, some, none}

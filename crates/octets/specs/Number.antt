@@ -1,5 +1,5 @@
 -- Little-endian numbers in bytes, once for every width: the number in the first w bytes of a list, and the w bytes of a
--- number. A list that ends early reads as if zeros followed. Assumes nothing.
+-- number. A list that ends early reads as if zeros followed.
 use Prim.Native.Nat.{ℕ, zero, suc, _+_, _*_, _/_, _%_, _<_}
 use mathlib.Core.List.{List, [], _∷_}
 use lib.ListN.{drop, getD}

@@ -1,6 +1,5 @@
 -- Tables and files in bytes: rows of equal width w, of which row i is the part at i·w. Page k of a file is its row k at the
 -- width of a page. A table as a list of rows, and back; a row or page laid over another; rows slid up or down by one.
--- Assumes nothing.
 use Prim.Native.Nat.{ℕ, zero, suc, _+_, _-_, _*_}
 use mathlib.Core.Path.{_≡_}
 use mathlib.Core.List.{List, [], _∷_, _++_}

@@ -1,5 +1,5 @@
 -- Demand 3 of the letter, as a statement. Read it with the letter in the other hand: each name below stands for one clause
--- of its third term, in the order of the text. Demanded.antt proves it. Nothing is assumed beside what the letter says.
+-- of its third term, in the order of the text. closes/Demanded proves it. Nothing is assumed beside what the letter says.
 use Prim.Native.Nat.{ℕ, _+_, _*_, _<_, _≤_}
 use mathlib.Core.List.{List, [], _∷_, _++_, map}
 use mathlib.Core.Path.{_≡_}

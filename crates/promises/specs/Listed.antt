@@ -1,6 +1,6 @@
 -- What the recorder closes is listed (document 01, "Listing"): at every close of a recording, what sidelist prints of the side
 -- file are the closed tick, e and the entries that the recorder has. The example's listing is computed beside the rows (Rows,
--- Computed: listing-holds). Assumes nothing.
+-- examples/Computed: listing-holds). Assumes nothing.
 use Prim.Native.Nat.{ℕ}
 use mathlib.Core.Path.{_≡_, _∙_, ap}
 use mathlib.Core.List.{_++_}

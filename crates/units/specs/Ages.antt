@@ -1,5 +1,5 @@
 -- The ages of a close (document 01, "Slots" and "Close"), over ticks and one number `wait`. The only place that says how
--- many ticks anything lasts: everything above goes by these names and by the laws below, and looks no further.
+-- many ticks anything lasts: everything above goes by these names and by laws/Ages, and looks no further.
 use Prim.Native.Nat.{ℕ, _+_}
 use mathlib.Core.Bool.{Bool, not, _&&_, _||_}
 use lib.Dec.{eqb, ltb, leb}

@@ -1,5 +1,5 @@
 -- The tests of a call in their order, each with the number that it refuses by (document 01, "Numbers of refusal").
--- A call is a list of such tests and what it does if all of them pass. Assumes nothing.
+-- A call is a list of such tests and what it does if all of them pass.
 use Prim.Native.Nat.{ℕ}
 use mathlib.Core.Bool.{Bool, true, _&&_}
 use mathlib.Core.List.{List, [], _∷_}

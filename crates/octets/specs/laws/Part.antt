@@ -1,4 +1,5 @@
--- Laws of specs/Part: what was laid is read back, what lies beside it is as before, and nothing changes its length. Assumes nothing.
+-- Laws of specs/Part: what was laid is read back, what lies beside it is as before, and nothing changes its length. Assumes
+-- nothing.
 use Prim.Native.Nat.{ℕ, zero, suc, _+_, _-_, _<_, _≤_}
 use mathlib.Core.Path.{_≡_, refl, _∙_, sym, ap}
 use mathlib.Core.List.{List, [], _∷_, _++_}
