@@ -1,5 +1,6 @@
 /* The desk's calls through the C boundary: a side file made by hand, read at its tick and at later ones, damaged in each way
  * that has its own number, and refreshed. That a refused call changes nothing is looked at after every refusal. */
+#include "expect.h"
 #include "ungletice.h"
 #include <stdio.h>
 #include <string.h>
@@ -7,17 +8,6 @@
 enum { P = 512, S = 2, L = 3, PAGES = 4, FIRST_IMAGE = 512, HELD = UNGLETICE_HELD_LENGTH(S, L), SIDE = UNGLETICE_SIDE_LENGTH(P, S, L) };
 
 static uint8_t side[SIDE + 8], base[PAGES * P], held[HELD + 8], marks[PAGES + 1];
-static int passed, failed;
-
-static void expect(const char *what, size_t got, size_t wanted)
-{
-    if (got == wanted) {
-        passed++;
-        return;
-    }
-    failed++;
-    printf("%s: %zu, not %zu\n", what, got, wanted);
-}
 
 static void put16(uint8_t *at, unsigned v)
 {

@@ -2,6 +2,7 @@
  * variants, close by close, as the side file is listed, the base has it and desks of each tick read it; then the counts, raw
  * pages, the end of a recording, and every number of refusal. After every refusal it is looked at that nothing changed, and
  * after every call that the bytes behind the slices did not. */
+#include "expect.h"
 #include "ungletice.h"
 #include <stdio.h>
 #include <string.h>
@@ -31,17 +32,6 @@ struct recording {
 
 static struct recording now, before;
 static uint8_t into[P], held[16][HELD], marks[E];
-static int passed, failed;
-
-static void expect(const char *what, size_t got, size_t wanted)
-{
-    if (got == wanted) {
-        passed++;
-        return;
-    }
-    failed++;
-    printf("%s: %zu, not %zu\n", what, got, wanted);
-}
 
 static void expect_text(const char *what, const char *got, const char *wanted)
 {

@@ -2,6 +2,7 @@
  * the state and every byte, a refused open too, and that each number of refusal is met through them. Then what is told of a
  * header and an index: on good, short and damaged side files and held buffers. The file is C11 and C++17, and is built as
  * both. */
+#include "expect.h"
 #include "ungletice.h"
 #include <stdio.h>
 #include <string.h>
@@ -26,17 +27,6 @@ static struct bytes now, before;
 static ungletice_recording recording;
 static ungletice_view view;
 static int met[15];
-static int passed, failed;
-
-static void expect(const char *what, size_t got, size_t wanted)
-{
-    if (got == wanted) {
-        passed++;
-        return;
-    }
-    failed++;
-    printf("%s: %zu, not %zu\n", what, got, wanted);
-}
 
 static void put32(uint8_t *at, uint32_t v)
 {
