@@ -1,6 +1,6 @@
 // The checksum: Bob Jenkins' lookup3, hashlittle. Its definition, specs/Hash.antt, is to be read beside his file.
 ghost use mathlib.Core.Path.{_≡_};
-ghost use Prim.Native.Nat.{_+_, _≤_, _<_};
+ghost use Prim.Native.Nat.{_+_, _*_, _≤_, _<_};
 ghost use lib.ListN.{length, getD};
 ghost use Rattle.lookup3.specs.Hash as Hash;
 
@@ -81,16 +81,33 @@ fn finish(w: Words) -> u32
     xor_sub(c, b, 24)
 }
 
-// Written as a sum of four bytes; the compiler makes one load of it.
-fn word(s: &[u8], i: usize) -> u32
-    requires { ⌜ i + 4 ≤ length (now s) ⌝ }
-    ensures { λ r. ⌜ r ≡ Hash.word (now (s .entry)) i ⌝ }
+// Four bytes as a number, b0 its lowest.
+fn joined(b0: u8, b1: u8, b2: u8, b3: u8) -> u32
+    ensures { λ r. ⌜ r ≡ b0 + b1 * 256 + b2 * 65536 + b3 * 16777216 ⌝ }
 {
-    wide(s[i]) + wide(s[i + 1]) * 256 + wide(s[i + 2]) * 65536 + wide(s[i + 3]) * 16777216
+    wide(b3) * 16777216 + wide(b2) * 65536 + wide(b1) * 256 + wide(b0)
 }
 
+fn byte_or_zero(s: &[u8], i: usize) -> u8
+    ensures { λ r. ⌜ r ≡ getD (now (s .entry)) i 0 ⌝ }
+{
+    if i < s.len() { s[i] } else { 0 }
+}
+
+// Where all four bytes are there, the compiler makes one load of their reads. Of a word that ends past the slice each byte is
+// read where it lies, and what is missing adds nothing.
+fn word(s: &[u8], i: usize) -> u32
+    requires { ⌜ i ≤ 8 ⌝ }
+    ensures { λ r. ⌜ r ≡ Hash.word (now (s .entry)) i ⌝ }
+{
+    if i + 4 <= s.len() {
+        return joined(s[i], s[i + 1], s[i + 2], s[i + 3]);
+    }
+    joined(byte_or_zero(s, i), byte_or_zero(s, i + 1), byte_or_zero(s, i + 2), byte_or_zero(s, i + 3))
+}
+
+// In the loop, where more than twelve bytes are left, the compiler knows that all three words are whole.
 fn add_block(s: &[u8], w: Words) -> Words
-    requires { ⌜ 12 ≤ length (now s) ⌝ }
     ensures { λ r. ⌜ r ≡ Hash.addBlock (now (s .entry)) w ⌝ }
 {
     Words {
@@ -107,41 +124,6 @@ fn begin(n: usize, start: u32) -> Words
     Words { a: v, b: v, c: v }
 }
 
-fn byte_or_zero(s: &[u8], i: usize) -> u8
-    ensures { λ r. ⌜ r ≡ getD (now (s .entry)) i 0 ⌝ }
-{
-    if i < s.len() { s[i] } else { 0 }
-}
-
-fn padded_word(s: &[u8], i: usize) -> u32
-    requires { ⌜ i ≤ 8 ⌝ }
-    ensures { λ r. ⌜ r ≡ Hash.word (now (s .entry)) i ⌝ }
-{
-    if i + 4 <= s.len() {
-        return word(s, i);
-    }
-    let bytes = [
-        byte_or_zero(s, i),
-        byte_or_zero(s, i + 1),
-        byte_or_zero(s, i + 2),
-        byte_or_zero(s, i + 3),
-    ];
-    word(&bytes, 0)
-}
-
-// The last 1 to 12 bytes go through a block of 12 bytes that is padded with zeros. It holds words: a block that is
-// filled byte by byte makes the hash slower than the published switch on the length.
-fn add_last(s: &[u8], w: Words) -> Words
-    ensures { λ r. ⌜ r ≡ Hash.addBlock (now (s .entry)) w ⌝ }
-{
-    let block = [padded_word(s, 0), padded_word(s, 4), padded_word(s, 8)];
-    Words {
-        a: add(w.a, block[0]),
-        b: add(w.b, block[1]),
-        c: add(w.c, block[2]),
-    }
-}
-
 // The hash of the bytes; start is the published initval, any number.
 pub fn hashlittle(bytes: &[u8], start: u32) -> u32
     ensures { λ r. ⌜ r ≡ Hash.hashlittle (now (bytes .entry)) start ⌝ }
@@ -155,7 +137,7 @@ pub fn hashlittle(bytes: &[u8], start: u32) -> u32
         w = mix(add_block(s, w));
         s = &s[12..];
     }
-    finish(add_last(s, w))
+    finish(add_block(s, w))
 }
 
 // The checksum of headers, indexes and images.

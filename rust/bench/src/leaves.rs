@@ -3,11 +3,15 @@
 use std::hint::black_box;
 
 use crate::clock::lowest;
-use crate::table::Table;
+use crate::table::{Table, NOT_DRAWN};
 
 const BOUND: f64 = 1.05;
 /// Below 36 bytes the call itself is a good part of the time.
+const SHORT: std::ops::Range<usize> = 1..36;
 const SHORT_BOUND: f64 = 1.5;
+/// The short length that the picture has too, and plain Rust beside it.
+const SHORT_DRAWN: usize = 12;
+const LONG: [usize; 4] = [36, 64, 512, 4096];
 const COPY_BOUND: f64 = 4.0;
 
 extern "C" {
@@ -46,22 +50,23 @@ fn chained<'a>(bytes: &'a [u8], hash: impl Fn(&[u8], u32) -> u32 + 'a) -> impl F
     move || start = hash(bytes, start)
 }
 
+/// Every short length, and with them each number of last bytes after none, one and two blocks; and some longer ones.
 pub fn checksum(table: &mut Table) {
     let bytes = pattern();
-    for length in [12, 36, 64, 512, 4096] {
+    for length in SHORT.chain(LONG) {
         let part = &bytes[..length];
-        let bound = if length < 36 { SHORT_BOUND } else { BOUND };
+        let is_short = SHORT.contains(&length);
+        let is_drawn = length == SHORT_DRAWN || !is_short;
+        let bound = if is_short { SHORT_BOUND } else { BOUND };
+        let group = if is_drawn { "checksum" } else { NOT_DRAWN };
+        let name = format!("lookup3, {length} byte{}", if length == 1 { "" } else { "s" });
         assert_eq!(proved::hashlittle(part, 0), in_c(part, 0));
         assert_eq!(proved::hashlittle(part, 0), plain::hashlittle(part, 0));
-        let name = format!("lookup3, {length} bytes");
-        table.row("checksum", &name, "C", bound, lowest(chained(part, proved::hashlittle), chained(part, in_c)));
-        table.row(
-            "checksum",
-            &name,
-            "Rust",
-            bound,
-            lowest(chained(part, proved::hashlittle), chained(part, plain::hashlittle)),
-        );
+        table.row(group, &name, "C", bound, lowest(chained(part, proved::hashlittle), chained(part, in_c)));
+        if is_drawn {
+            let pair = lowest(chained(part, proved::hashlittle), chained(part, plain::hashlittle));
+            table.row(group, &name, "Rust", bound, pair);
+        }
     }
 }
 

@@ -3,7 +3,7 @@
 
 use std::fmt::Write;
 
-use crate::table::{Row, Table};
+use crate::table::{Row, Table, NOT_DRAWN};
 
 const WIDTH: f64 = 900.0;
 const LEFT: f64 = 330.0;
@@ -56,10 +56,10 @@ fn bar(out: &mut String, y: f64, row: &Row) {
 }
 
 /// The height that the groups and rows take.
-fn bottom(table: &Table) -> f64 {
-    let mut groups: Vec<&str> = table.rows.iter().map(|row| row.group).collect();
+fn bottom(rows: &[&Row]) -> f64 {
+    let mut groups: Vec<&str> = rows.iter().map(|row| row.group).collect();
     groups.dedup();
-    TOP + STEP * (table.rows.len() as f64 + 1.5 * groups.len() as f64) + 8.0
+    TOP + STEP * (rows.len() as f64 + 1.5 * groups.len() as f64) + 8.0
 }
 
 fn axis(out: &mut String, bottom: f64) {
@@ -74,7 +74,8 @@ fn axis(out: &mut String, bottom: f64) {
 
 pub fn svg(table: &Table) -> String {
     let mut out = String::new();
-    let bottom = bottom(table);
+    let rows: Vec<&Row> = table.rows.iter().filter(|row| row.group != NOT_DRAWN).collect();
+    let bottom = bottom(&rows);
     let _ = writeln!(
         out,
         r#"<svg xmlns="http://www.w3.org/2000/svg" viewBox="0 0 {WIDTH} {:.0}" font-family="sans-serif" font-size="12" fill="{INK}">"#,
@@ -90,7 +91,7 @@ pub fn svg(table: &Table) -> String {
     axis(&mut out, bottom);
     let mut y = TOP;
     let mut group = "";
-    for row in &table.rows {
+    for row in rows {
         if row.group != group {
             group = row.group;
             y += 1.5 * STEP;

@@ -2,6 +2,9 @@
 
 use crate::clock::Pair;
 
+/// The group of the rows that are told and counted like others, and left out of the picture.
+pub const NOT_DRAWN: &str = "";
+
 pub struct Row {
     pub group: &'static str,
     pub name: String,

@@ -47,8 +47,8 @@ loop-again c =
     let at-loop = c .before .before .before .before in
     turn (at-loop .loop .s .now) (at-loop .loop .w) (c .before .mix .result) _ (omega arith) (cc) (at-loop .loop .inv)
 
-add-last-requires : tie.Need-add-last-requires Inv-loop μ-loop
-add-last-requires c κs = search needs
+add-block-requires-2 : tie.Need-add-block-requires-2 Inv-loop μ-loop
+add-block-requires-2 c κs = search needs
 
 finish-requires : tie.Need-finish-requires Inv-loop μ-loop
 finish-requires c κs = search needs
@@ -74,6 +74,6 @@ hashlittle-spec =
     part-s-end
     loop-less
     loop-again
-    add-last-requires
+    add-block-requires-2
     finish-requires
     returns-2)
