@@ -1,5 +1,6 @@
 //! The proved lookup3 against the second version, and both against the published vectors.
 
+use std::ffi::{c_int, c_void};
 use std::fmt::Write;
 
 /// A small generator (splitmix64), so that a failure can be repeated.
@@ -62,6 +63,53 @@ fn every_short_length_at_every_alignment() {
                 same(&buffer[offset..offset + length], start);
             }
         }
+    }
+}
+
+extern "C" {
+    fn mmap(
+        at: *mut c_void,
+        length: usize,
+        access: c_int,
+        flags: c_int,
+        file: c_int,
+        offset: i64,
+    ) -> *mut c_void;
+    fn mprotect(at: *mut c_void, length: usize, access: c_int) -> c_int;
+}
+
+/// Memory of this many bytes, whole pages on every machine, with a page behind it that cannot be touched.
+const ROOM: usize = 65_536;
+
+fn room_before_the_end() -> &'static mut [u8] {
+    const READ_AND_WRITE: c_int = 1 | 2;
+    const PRIVATE_AND_ANONYMOUS: c_int = 2 | 32;
+    // SAFETY: the map is new, nothing else points into it, and it is never given back; the slice is its first half.
+    unsafe {
+        let map = mmap(
+            std::ptr::null_mut(),
+            2 * ROOM,
+            READ_AND_WRITE,
+            PRIVATE_AND_ANONYMOUS,
+            -1,
+            0,
+        );
+        assert!(!map.is_null() && map as isize != -1);
+        assert_eq!(mprotect(map.byte_add(ROOM), ROOM, 0), 0);
+        std::slice::from_raw_parts_mut(map.cast(), ROOM)
+    }
+}
+
+/// A read past the end of the slice would be a fault.
+#[test]
+fn slices_that_end_where_the_memory_ends() {
+    let mut random = Random(5);
+    let room = room_before_the_end();
+    room.copy_from_slice(&random.bytes(ROOM));
+    for length in (0..=300).chain([512, 1_024, 2_048, 4_095, 4_096]) {
+        let bytes = &room[ROOM - length..];
+        same(bytes, 0);
+        same(bytes, random.word());
     }
 }
 
