@@ -103,7 +103,12 @@ fn word(s: &[u8], i: usize) -> u32
     if i + 4 <= s.len() {
         return joined(s[i], s[i + 1], s[i + 2], s[i + 3]);
     }
-    joined(byte_or_zero(s, i), byte_or_zero(s, i + 1), byte_or_zero(s, i + 2), byte_or_zero(s, i + 3))
+    joined(
+        byte_or_zero(s, i),
+        byte_or_zero(s, i + 1),
+        byte_or_zero(s, i + 2),
+        byte_or_zero(s, i + 3),
+    )
 }
 
 // In the loop, where more than twelve bytes are left, the compiler knows that all three words are whole.
