@@ -1,7 +1,7 @@
 // The checksum: Bob Jenkins' lookup3, hashlittle. Its definition, specs/Hash.antt, is to be read beside his file.
 ghost use mathlib.Core.Path.{_≡_};
 ghost use Prim.Native.Nat.{_+_, _*_, _≤_, _<_};
-ghost use lib.ListN.{length, getD};
+ghost use lib.ListN.{getD};
 ghost use Rattle.lookup3.specs.Hash as Hash;
 
 // The three words that every block is mixed into, a, b and c in the published file.

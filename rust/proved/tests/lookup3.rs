@@ -78,7 +78,7 @@ extern "C" {
     fn mprotect(at: *mut c_void, length: usize, access: c_int) -> c_int;
 }
 
-/// Memory of this many bytes, whole pages on every machine, with a page behind it that cannot be touched.
+/// Memory of this many bytes, whole pages on every machine, with as many behind it that cannot be touched.
 const ROOM: usize = 65_536;
 
 fn room_before_the_end() -> &'static mut [u8] {
