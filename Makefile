@@ -59,14 +59,14 @@ build/lib/pkgconfig/ungletice.pc: ungletice.pc.in c/ungletice.h FORCE
 FORCE:
 
 target/staticlib/lib%.a: $(SOURCES)
-	rt staticlib $*
+	tools/build $*
 
 # The programs.
 
 programs: x86-64 build/bin/sidelist build/bin/deskwatch
 
 target/bin/sidelist: $(SOURCES)
-	rt check sidelist
+	tools/build sidelist
 
 build/bin/sidelist: target/bin/sidelist
 	@mkdir -p $(@D)
@@ -158,4 +158,4 @@ mutants:
 	@tools/mutants
 
 clean:
-	rm -rf build target rust/target
+	rm -rf build target rust/target crates/*/out

@@ -6,7 +6,7 @@
  * which is what the deck board has, and 1,700 bytes for a close, so that there is room for more. A call above its bound says
  * so, and makes the exit status 1.
  *
- *     cc -O2 -Ic c/bench/stack.c ARCHIVE -o stack && ./stack          ARCHIVE: rt staticlib cabi */
+ *     cc -O2 -Ic c/bench/stack.c ARCHIVE -o stack && ./stack          ARCHIVE: tools/build cabi */
 #define _DEFAULT_SOURCE
 #include "ungletice.h"
 #include <stdio.h>

@@ -76,9 +76,14 @@ caught "a field too few, C" $c '/uint32_t closed;  /d' 'ungletice_state, field 3
 caught "no layout, Rust" $recorder '1,/repr(C)/s/repr(C)/allow(dead_code)/' 'ungletice_settings: rust/proved/src does not declare it'
 caught "a number, C" $c 's/UNGLETICE_REFUSED_LAG = 13/UNGLETICE_REFUSED_LAG = 12/' 'UNGLETICE_REFUSED_LAG: '
 caught "a number missing, C" $c '/UNGLETICE_REFUSED_SPAN = 6/d' 'UNGLETICE_REFUSED_SPAN: c/ungletice.h does not declare it'
-caught "a new export" $exports/lib.rt 's/^pub extern "C" fn/pub extern "C" fn ungletice_more() -> u32 { 0 } #[no_mangle] &/' \
+caught "a new export" $exports/lib.rt 's/^pub extern "C" fn/pub extern "C" fn ungletice_more() -> u32 { 0 } #[unsafe(no_mangle)] &/' \
     'ungletice_more: c/ungletice.h does not declare it'
 caught "an export that is none any more" $exports/lib.rt '/no_mangle/d' 'ungletice_lookup3: c/ungletice.h declares it'
+caught "a width in a signature of several lines" $exports/recording.rt '/fn ungletice_recorder_grow(/,/)/s/kind: u32/kind: u8/' \
+    'ungletice_recorder_grow, parameter 12: '
+caught "a parameter more in a signature of several lines" $exports/recording.rt \
+    '/fn ungletice_recorder_grow(/,/)/s/kind: u32,/& more: u32,/' \
+    'ungletice_recorder_grow, parameter 13: .* nothing in c/ungletice.h'
 caught "a slice that is now written" $exports/viewer.rt 's/ungletice_refresh(side: &\[u8\]/ungletice_refresh(side: \&mut [u8]/' \
     'ungletice_refresh, parameter 1: '
 caught "a struct without layout" crates/slots/src/lib.rt 's/^#\[repr(C)\]//' 'ungletice_slots: .* no crate declares it #\[repr(C)\]'

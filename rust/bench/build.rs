@@ -1,5 +1,5 @@
 //! Links what the rows beside C need: the baseline c/bench/hashlittle.c, compiled here, and the archive of `leaves`, which
-//! `rt staticlib leaves` writes to target/staticlib/ at the root of the repository.
+//! `tools/build leaves` writes to target/staticlib/ at the root of the repository.
 
 use std::env;
 use std::path::{Path, PathBuf};
@@ -20,7 +20,7 @@ fn link_leaves(dir: &Path) {
         println!("cargo::rustc-link-search=native={}", dir.display());
         println!("cargo::rustc-link-lib=static=leaves");
     } else {
-        println!("cargo::error={} is missing: run `rt staticlib leaves`", archive.display());
+        println!("cargo::error={} is missing: run `tools/build leaves`", archive.display());
     }
 }
 

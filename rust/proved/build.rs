@@ -1,4 +1,4 @@
-//! Links the archive of the proved code, which `rt staticlib cabi` writes to target/staticlib/ at
+//! Links the archive of the proved code, which `tools/build cabi` writes to target/staticlib/ at
 //! the root of the repository. UNGLETICE_LIB_DIR names another folder that has it.
 
 use std::env;
@@ -24,7 +24,7 @@ fn main() {
         println!("cargo::rustc-link-lib=static=cabi");
     } else {
         println!(
-            "cargo::error={} is missing: run `rt staticlib cabi`, or set {DIR} to the folder that has it",
+            "cargo::error={} is missing: run `tools/build cabi`, or set {DIR} to the folder that has it",
             archive.display()
         );
     }

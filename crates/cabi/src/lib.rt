@@ -1,5 +1,7 @@
 // The C boundary: what libungletice.a exports, over plain numbers and byte slices (a pointer, then a length).
 // Thin: each export calls the function of the crate that has it, and its contract is that function's. None has a requires.
+#![tactic(auto)]
+
 pub mod fields;
 pub mod fronts;
 pub mod lengths;

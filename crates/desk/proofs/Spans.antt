@@ -129,23 +129,23 @@ module _ (held side base : List ℕ) (p offset n : ℕ) where
 
 -- the held entry of a page, by where it was found among n rows
 module _ (held : List ℕ) (p n i : ℕ) (e : n ≡ (header_of held).entries) (f : i ≡ position (of_page p) (entries_at header_length index_row n held)) where
-  rows_of : index_of held ≡ entries_at header_length index_row n held
-  rows_of = index_entries held ∙ ap (λ (k : ℕ). entries_at header_length index_row k held) (sym e)
+  rows_of_lem : index_of held ≡ entries_at header_length index_row n held
+  rows_of_lem = index_entries held ∙ ap (λ (k : ℕ). entries_at header_length index_row k held) (sym e)
 
   pub entry_found : i < n → held_entry (index_of held) p ≡ some (index_entry_of (row header_length index_row i held))
   unfolding held_entry
   entry_found h =
-      ap (first (of_page p)) rows_of
+      ap (first (of_page p)) rows_of_lem
       ∙ first_at (of_page p) (entries_at header_length index_row n held) i _ _ f (entry_next header_length index_row n held i h)
 
   pub entry_missing : n ≤ i → held_entry (index_of held) p ≡ none
   unfolding held_entry
   entry_missing h =
-      ap (first (of_page p)) rows_of
+      ap (first (of_page p)) rows_of_lem
       ∙ first_past (of_page p) (entries_at header_length index_row n held) (omega (arith, length_entries_at header_length index_row n held))
 
   pub entry_has : {P : IndexEntry → Type 0} → i < n → Every P (index_of held) → P (index_entry_of (row header_length index_row i held))
-  entry_has {P} h a = every_at (entries_at header_length index_row n held) i (subst (Every P) rows_of a) (entry_next header_length index_row n held i h)
+  entry_has {P} h a = every_at (entries_at header_length index_row n held) i (subst (Every P) rows_of_lem a) (entry_next header_length index_row n held i h)
 
 -- an entry of the page, sought among the rows of a held buffer: h is its header, k the number of rows, i where the search ended
 pub record Sought (held side base : List ℕ) (p offset n : ℕ) (h : Header) (k i : ℕ) : Type 0 where

@@ -1,5 +1,7 @@
 // The desk (document 01, "What the desk does"): take, refresh and read. Its state is the held buffer, which it lends.
 // The calls below take anything: every slice and number is judged before it is used, the held buffer too.
+#![tactic(auto)]
+
 mod follow;
 mod locate;
 mod marks;
@@ -17,7 +19,7 @@ use units::{Page, refusal};
 // What a read answers to a program that takes its bytes itself: the number of refusal, the slice (0 the base, 1 the side
 // file) and where in it they begin. Of a refusal the last two are 0.
 #[repr(C)]
-#[derive(Drop)]
+#[derive(Clone, Copy)]
 pub struct Part {
     pub number: u32,
     pub source: u32,

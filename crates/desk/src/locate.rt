@@ -16,7 +16,7 @@ pub const SIDE: u32 = 1;
 
 // A number of refusal, or 0 and a span: the slice, where in it the span begins, and how long it is. Of a refusal the span is
 // the empty one at the base's start.
-#[derive(Drop)]
+#[derive(Clone, Copy)]
 pub struct Found {
     pub number: u32,
     pub source: u32,

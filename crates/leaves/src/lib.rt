@@ -1,5 +1,7 @@
 // Leaf functions over the C boundary, for the measurements alone: no part of the library that C programs link.
 // Each takes any numbers, and does nothing where what it would touch does not lie inside the slices.
+#![tactic(auto)]
+
 ghost use Rattle.std.specs.Prelude.{◌≡◌};
 ghost use Rattle.leaves.specs.inner.Guarded.{copied};
 

@@ -1,6 +1,8 @@
 // The ledger: the recorder's entries and image places, as rows in lent bytes. It is state, kept beside the small struct:
 // X rows of 20 bytes, an index entry as the side file has it followed by its entry tick; then M rows of 8 bytes, retired
 // (0 or not) and the tick of that.
+#![tactic(auto)]
+
 pub mod index;
 pub mod judge;
 pub mod places;
@@ -11,7 +13,7 @@ pub mod search;
 
 use units::{Page, Place, Tick};
 
-#[derive(Drop)]
+#[derive(Clone, Copy)]
 pub struct Entry {
     pub page: Page,
     pub place: Place,

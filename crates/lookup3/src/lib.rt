@@ -1,9 +1,11 @@
 // The checksum: Bob Jenkins' lookup3, hashlittle. Its definition, specs/Hash.antt, is to be read beside his file.
+#![tactic(auto)]
+
 ghost use Rattle.std.specs.Prelude.{◌≡◌, ◌+◌, ◌*◌, ◌<◌, ◌≤◌, slice_index};
 ghost use Rattle.lookup3.specs.Hash as Hash;
 
 // The three words that every block is mixed into, a, b and c in the published file.
-#[derive(Drop)]
+#[derive(Clone, Copy)]
 struct Words {
     a: u32,
     b: u32,

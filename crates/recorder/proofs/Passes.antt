@@ -10,7 +10,7 @@ use lib.ListN.{length, take, drop, get_or, length-take}
 use lib.Seq.{drop-cons, get_or-take, drop-length}
 use borrow.Author.Tests.{eq-eqb, ne_eqb, ltb-true}
 use Rattle.lists.specs.Below.{below}
-use Rattle.lists.specs.laws.Below.{all_from}
+use Rattle.lists.specs.laws.Below.{all_from_lem}
 use Rattle.lists.specs.laws.Bools.{or_drop}
 use Rattle.lists.specs.Scans.{all_of}
 use Rattle.units.specs.declared.Page.{Page}
@@ -62,7 +62,7 @@ module _ (kinds : List ℕ) (pages : List Page) (i : ℕ) where
     unfolding page_at
     page_low S end r h =
         ltb-true (page_at (table_of pages []) i) end
-        (or_drop (vacant (table_of pages []) i) (ltb (page_at (table_of pages []) i) end) (all_from (seat_below end pages) 0 S i (omega arith) (omega arith) r) occupied)
+        (or_drop (vacant (table_of pages []) i) (ltb (page_at (table_of pages []) i) end) (all_from_lem (seat_below end pages) 0 S i (omega arith) (omega arith) r) occupied)
 
 -- of a whole table
 module _ (t : Slots) where

@@ -17,7 +17,7 @@ use units::Page;
 
 // The slot in which a page is used: its own, a hit, or one that it takes, for which a page may have to go; or there is none to
 // take.
-#[derive(Drop)]
+#[derive(Clone, Copy)]
 pub struct Use {
     pub found: bool,
     pub hit: bool,

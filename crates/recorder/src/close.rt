@@ -16,7 +16,7 @@ use slots::lookup;
 use units::{Page, Settings, Tick, refusal};
 
 // 0 and how many entries there are, or the number of the refusal.
-#[derive(Drop)]
+#[derive(Clone, Copy)]
 pub struct Done {
     pub number: u32,
     pub entries: u32,

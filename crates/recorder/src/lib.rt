@@ -1,6 +1,8 @@
 // The recorder (document 01, "What the recorder does"): its state, and the five calls. The state is this struct by value and
 // the lent ledger; base, side file, page buffer and kind table are lent to each call. A slice that a call does not write is
 // lent to it for reading only.
+#![tactic(auto)]
+
 pub mod buffer;
 pub mod calls;
 pub mod close;
@@ -18,7 +20,7 @@ use units::{Settings, Tick};
 
 // In the order of HDF5's page buffering statistics. Each stops at 4,294,967,295.
 #[repr(C)]
-#[derive(Drop)]
+#[derive(Clone, Copy)]
 pub struct Counts {
     pub accesses: u32,
     pub hits: u32,
@@ -29,7 +31,7 @@ pub struct Counts {
 
 // `end` is e, the pages in the file now; `entries` says how many rows of the ledger are entries.
 #[repr(C)]
-#[derive(Drop)]
+#[derive(Clone, Copy)]
 pub struct State {
     pub settings: Settings,
     pub end: u32,
@@ -42,7 +44,7 @@ pub struct State {
 
 // A number of refusal and the state as it was given, or 0 and the state from now on.
 #[repr(C)]
-#[derive(Drop)]
+#[derive(Clone, Copy)]
 pub struct Answer {
     pub number: u32,
     pub state: State,

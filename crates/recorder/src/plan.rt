@@ -13,7 +13,7 @@ use slots::changes;
 use units::{Settings, Tick};
 
 // Whether there is enough, and how many elements of the lent arrays count.
-#[derive(Drop)]
+#[derive(Clone, Copy)]
 pub struct Plan {
     pub enough: bool,
     pub count: usize,
@@ -34,7 +34,7 @@ pub fn of_close(
     places: &mut [u32; 16],
     entered: &mut [u32; 16],
 ) -> Plan
-    requires going_value { (flags going.old ≡ replicate 144 false) × (length pages.old ≡ 16) × (length places.old ≡ 16) × (length entered.old ≡ 16) }
+    requires tables { (flags going.old ≡ replicate 144 false) × (length pages.old ≡ 16) × (length places.old ≡ 16) × (length entered.old ≡ 16) }
     requires plans { (w : World) × Plans (handed settings end entries (pages_of seats.now) ledger.now (flagged changed.now w)) tick }
     ensures { (w : World) → PlansTo (handed settings end entries (pages_of seats.now) ledger.now (flagged changed.now w)) tick result.enough (record { count = result.count; pages = pages.new; places = places.new; entered = entered.new; going = flags going.new }) }
 {

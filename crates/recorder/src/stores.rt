@@ -15,7 +15,7 @@ use slots::{Found, lookup};
 use units::{Page, Place, Settings, Tick};
 
 // A part of the page buffer.
-#[derive(Drop)]
+#[derive(Clone, Copy)]
 pub struct Stretch {
     pub start: usize,
     pub length: usize,

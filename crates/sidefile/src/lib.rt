@@ -1,5 +1,7 @@
 // The side file (document 01, "The side file"): header and index, their bytes, and the judge of refusals 11 and 12.
 // The recorder writes it and the desk reads it, so both stand on this crate.
+#![tactic(auto)]
+
 pub mod encode;
 pub mod headers;
 pub mod judge;
@@ -12,7 +14,7 @@ ghost use Rattle.std.specs.Prelude.{◌≡◌, ◌<◌};
 use units::{Page, Place, Settings, Tick};
 
 // What a header says. The side file does not name E, so its settings have the largest one.
-#[derive(Drop)]
+#[derive(Clone, Copy)]
 pub struct Header {
     pub settings: Settings,
     pub closed: Tick,
@@ -21,7 +23,7 @@ pub struct Header {
 }
 
 // What an entry of the index says.
-#[derive(Drop)]
+#[derive(Clone, Copy)]
 pub struct IndexEntry {
     pub page: Page,
     pub place: Place,

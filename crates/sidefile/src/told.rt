@@ -8,7 +8,7 @@ use units::{Page, Place, Settings, Tick};
 
 // 11, 12 or 0, and what the header says; of a refusal, zeros. The files do not name E: `settings.capacity` is the largest.
 #[repr(C)]
-#[derive(Drop)]
+#[derive(Clone, Copy)]
 pub struct Told {
     pub number: u32,
     pub tick: Tick,
@@ -19,7 +19,7 @@ pub struct Told {
 
 // 1 and an entry of the index, or zeros.
 #[repr(C)]
-#[derive(Drop)]
+#[derive(Clone, Copy)]
 pub struct EntryTold {
     pub found: u32,
     pub page: Page,

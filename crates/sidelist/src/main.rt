@@ -1,5 +1,6 @@
 // Lists the side file on standard input (document 01, "Listing"). Here it is only read and written; what is kept of it, and
 // the text, are listing's. A read that fails is no end of the input: then there is a line on standard error and no listing.
+#![tactic(auto)]
 ghost use Rattle.std.specs.Prelude.{◌≤◌, length};
 ghost use Rattle.listing.specs.Text.{most_text};
 ghost use Rattle.sidelist.specs.Input.{Came, Read, Lists};
@@ -9,7 +10,7 @@ use listing::{MOST_TEXT, input};
 use sidefile::layout;
 
 // How many bytes there are: that one read brought, of the whole input, of its listing; or that a read failed.
-#[derive(Drop)]
+#[derive(Clone, Copy)]
 enum Count {
     Bytes(usize),
     Failed,

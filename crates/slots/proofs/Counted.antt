@@ -12,7 +12,7 @@ use lib.ListN.{length, take, get_or, length-map, get_or-map}
 use lib.Seq.{take_all, ext_get_or}
 use borrow.Author.Tests.{lt-ltb, le-leb, eqb-true, ltb-true, leb-true, not-true}
 use Rattle.lists.specs.Below.{from, below}
-use Rattle.lists.specs.laws.Below.{length_from, get_from, all_from}
+use Rattle.lists.specs.laws.Below.{length_from, get_from, all_from_lem}
 use Rattle.lists.specs.Bools.{if_then}
 use Rattle.lists.specs.laws.Bools.{both, false_of, not_both}
 use Rattle.lists.specs.Scans.{Every, all_of}
@@ -199,7 +199,7 @@ module _ (S end : ℕ) (t : Slots) (w : Whole t) (few : S ≤ 16) (small : end �
           let b = both (leb t.used 16) (all_of (row_kept S t) (below 16)) a.0 in
           sits_back
           (sits_counted (leb-true t.used 16 b.0)
-          (λ i k. all_from (row_kept S t) 0 16 i (omega arith) (omega arith) b.1)
+          (λ i k. all_from_lem (row_kept S t) 0 16 i (omega arith) (omega arith) b.1)
           (all_of_every (use_kept end t.pages) (uses t) a.1))
 
       back : slot_rules S end t ≡ true → (leb t.used 16 && all_of (row_kept S t) (below 16) && all_of (use_kept end t.pages) (uses t)) ≡ true

@@ -1,5 +1,7 @@
 // The slot table of the page buffer (document 01, "Slots"): which page each slot has, which are changed, and the order of
 // use. By value: some 150 bytes.
+#![tactic(auto)]
+
 pub mod changes;
 pub mod judge;
 pub mod lookup;
@@ -13,7 +15,7 @@ use units::Page;
 // An empty slot has the page number 4,294,967,295. A flag is set if it is not 0. The order lists the pages in the occupied
 // slots, the one used longest ago first; `used` says how many of its elements count.
 #[repr(C)]
-#[derive(Drop)]
+#[derive(Clone, Copy)]
 pub struct Slots {
     pub pages: [Page; 16],
     pub changed: [u8; 16],
@@ -22,14 +24,14 @@ pub struct Slots {
 }
 
 // The slot that a search found.
-#[derive(Drop)]
+#[derive(Clone, Copy)]
 pub enum Found {
     At(usize),
     Nothing,
 }
 
 // The slot that a page gets, and whether a page is evicted for it; or none is to be had.
-#[derive(Drop)]
+#[derive(Clone, Copy)]
 pub struct Seating {
     pub found: bool,
     pub slot: usize,

@@ -2,7 +2,7 @@
 // rows. A close, which asks often, lends its seats as numbers: handed down by value the table would be copied at each step.
 ghost use Rattle.std.specs.Prelude.{◌≡◌, false, [], ◌≤◌, length, get_or};
 ghost use Rattle.slots.specs.Table as Table;
-ghost use Rattle.slots.specs.inner.Answers.{toOption};
+ghost use Rattle.slots.specs.inner.Answers.{to_option};
 ghost use Rattle.slots.specs.inner.Numbers.{pages_of, table_of};
 
 use crate::{Found, Slots, wide};
@@ -11,7 +11,7 @@ use units::Page;
 impl Slots {
     pub fn slot_of(self, slots: usize, page: Page) -> Found
         requires { slots ≤ 16 }
-        ensures { toOption result ≡ Table.slot_of slots self page.0 }
+        ensures { to_option result ≡ Table.slot_of slots self page.0 }
     {
         let mut i: usize = 0;
         while i < slots {
@@ -26,7 +26,7 @@ impl Slots {
 
     pub fn lowest_empty(self, slots: usize) -> Found
         requires { slots ≤ 16 }
-        ensures { toOption result ≡ Table.lowest_empty slots self }
+        ensures { to_option result ≡ Table.lowest_empty slots self }
     {
         self.slot_of(slots, Page(Slots::NO_PAGE))
     }
@@ -34,7 +34,7 @@ impl Slots {
     // The slot used longest ago that `mask` does not spare.
     pub fn victim(self, slots: usize, mask: [bool; 16]) -> Found
         requires { (slots ≤ 16) × (self.used ≤ 16) }
-        ensures { toOption result ≡ Table.victim slots (λ i. get_or mask i false) self }
+        ensures { to_option result ≡ Table.victim slots (λ i. get_or mask i false) self }
     {
         let used = wide(self.used);
         let mut k: usize = 0;
@@ -75,7 +75,7 @@ pub fn list_seats(pages: [Page; 16], seats: &mut [u32; 16])
 // As `slot_of`, of seats that are lent.
 pub fn slot_in(seats: &[u32; 16], slots: usize, page: Page) -> Found
     requires { slots ≤ 16 }
-    ensures { toOption result ≡ Table.slot_of slots (table_of (pages_of seats.now) []) page.0 }
+    ensures { to_option result ≡ Table.slot_of slots (table_of (pages_of seats.now) []) page.0 }
 {
     let mut i: usize = 0;
     while i < slots {

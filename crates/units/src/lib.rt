@@ -2,25 +2,27 @@
 // what follows from them, the ages of a close, the numbers of refusal.
 // Ticks, pages and places are three counters; each is a struct of its own, so that none can be handed over for another.
 // Only ticks have sums, and these are wide enough that nothing wraps at the largest tick.
+#![tactic(auto)]
+
 pub mod ages;
 pub mod refusal;
 pub mod sizes;
 
 #[repr(C)]
-#[derive(Drop)]
+#[derive(Clone, Copy)]
 pub struct Tick(pub u32);
 
 #[repr(C)]
-#[derive(Drop)]
+#[derive(Clone, Copy)]
 pub struct Page(pub u32);
 
 #[repr(C)]
-#[derive(Drop)]
+#[derive(Clone, Copy)]
 pub struct Place(pub u32);
 
 // P, S, L and E: bytes of a page, buffer slots, maximum lag in ticks, pages that the base can have.
 #[repr(C)]
-#[derive(Drop)]
+#[derive(Clone, Copy)]
 pub struct Settings {
     pub size: u32,
     pub slots: u32,

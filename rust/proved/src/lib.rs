@@ -1,4 +1,4 @@
-//! Safe functions over the proved layer: each calls a C function of the static library that `rt staticlib cabi` writes.
+//! Safe functions over the proved layer: each calls a C function of the static library that `tools/build cabi` writes.
 //! c/ungletice.h declares the same functions and structs for C, and says what they do.
 
 mod desk;

@@ -171,8 +171,8 @@ fn long_slices() {
     }
 }
 
-/// What the program `vectors` must write, by the second version. `rt check` compares the program
-/// with the same file.
+/// What the program `vectors` must write, by the second version. `rt ci` compares the program with
+/// the same file.
 #[test]
 fn stored_output_of_the_program_vectors() {
     let pattern: Vec<u8> = (0..4096).map(|i| (7 * i + 13 * (i / 256)) as u8).collect();

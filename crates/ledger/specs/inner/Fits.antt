@@ -6,7 +6,7 @@ use Rattle.std.proofs.Math.Bool.{true, false, not}
 use Rattle.std.proofs.Math.Dec.{ltb, leb}
 use borrow.Author.Tests.{eqb-true, ltb-true, not-true}
 use Rattle.lists.specs.Below.{below}
-use Rattle.lists.specs.laws.Below.{all_from}
+use Rattle.lists.specs.laws.Below.{all_from_lem}
 use Rattle.lists.specs.laws.Bools.{both, and_make, not_both}
 use Rattle.lists.specs.Scans.{Every, any_of, all_of}
 use Rattle.lists.specs.laws.Scans.{every_map, every_two, every_all_of, all_of_every, any_some}
@@ -162,4 +162,4 @@ module _ (s : Settings) (end : ℕ) (closed : Tick) (seated : ℕ → Bool) (n :
       one e h =
           let k = ltb-true (place_of e) (places s) h.1.1.0 in
           entry_make s end closed seated ledger e h.0 h.1.0 h.1.1.0
-          (freed (place_of e) (retired s ledger (place_of e)) h.1.1.1 (all_from place_fit 0 (places s) (place_of e) (omega arith) (omega arith) r))
+          (freed (place_of e) (retired s ledger (place_of e)) h.1.1.1 (all_from_lem place_fit 0 (places s) (place_of e) (omega arith) (omega arith) r))

@@ -93,10 +93,10 @@ module _ (s : Settings) (ledger : List ℕ) (q : ℕ) where
   unfolding retired le
   row_free e = rw e
 
-  pub row_kept : (before : List ℕ) → place_row_at s ledger q ≡ place_row_at s before q
+  pub row_kept_lem : (before : List ℕ) → place_row_at s ledger q ≡ place_row_at s before q
       → (retired s ledger q ≡ retired s before q) × (retired_at s ledger q ≡ retired_at s before q)
   unfolding retired retired_at
-  row_kept before e = (rw e, rw e)
+  row_kept_lem before e = (rw e, rw e)
 
 -- The ledger after a close with these entries before it and after it: what it says of place q, by what stood there.
 
@@ -138,7 +138,7 @@ module _ (s : Settings) (wait : ℕ) (N : Tick) (changed_in : ℕ → Bool) (es 
           × (retired_at s (ledger_closed s wait N changed_in es ledger later) q ≡ retired_at s ledger q)
       unfolding place_after
       closed_rests e r =
-          let k = row_kept s (ledger_closed s wait N changed_in es ledger later) q ledger (closed_row ∙ rw (e, r)) in
+          let k = row_kept_lem s (ledger_closed s wait N changed_in es ledger later) q ledger (closed_row ∙ rw (e, r)) in
           (k.0 ∙ (both (retired s ledger q) (not (reusable wait (retired_at s ledger q) N)) r).0, k.1)
 
       pub closed_frees : given_up wait N changed_in es q ≡ false → resting s wait N ledger q ≡ false → retired s (ledger_closed s wait N changed_in es ledger later) q ≡ false

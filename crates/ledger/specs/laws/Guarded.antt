@@ -7,7 +7,7 @@ use Rattle.std.proofs.Common.{◌∙◌, sym, inl, inr, arith, eqb-true, leb-tru
 use Rattle.std.proofs.Math.Bool.{true, false}
 use Rattle.std.proofs.Math.Dec.{eqb}
 use Rattle.lists.specs.Below.{below}
-use Rattle.lists.specs.laws.Below.{every_from, all_from}
+use Rattle.lists.specs.laws.Below.{every_from, all_from_lem}
 use Rattle.lists.specs.laws.Bools.{not_both, and_left, or_right}
 use Rattle.lists.specs.Scans.{Every, any_of, all_of}
 use Rattle.lists.specs.laws.Scans.{every_map, every_all_of, any_none, none_any, any_stays}
@@ -15,7 +15,6 @@ use Rattle.units.specs.Ages.{reusable}
 use Rattle.units.specs.laws.Ages.{reusable_late}
 use Rattle.units.specs.Sizes.{top, entries, places, ledger_length}
 use Rattle.units.specs.declared.Settings.{Settings}
-use Rattle.units.specs.declared.Tick.{Tick}
 use Rattle.sidefile.specs.Judge.{ascending, apart}
 use Rattle.ledger.specs.declared.Entry.{Entry}
 use Rattle.ledger.specs.View.{indexed, entries_in, retired, retired_at}
@@ -110,7 +109,7 @@ module _ (c : Closing) where
         before : (q : ℕ) → q < places c.settings → retired c.settings c.ledger q ≡ true → (retired_at c.settings c.ledger q).0 ≤ c.closed.0
         before q h r =
             leb-true (retired_at c.settings c.ledger q).0 c.closed.0
-            (rw r at (all_from (retired_by c.settings c.ledger c.closed) 0 (places c.settings) q (omega arith) (omega arith) old))
+            (rw r at (all_from_lem (retired_by c.settings c.ledger c.closed) 0 (places c.settings) q (omega arith) (omega arith) old))
 
         one : (q : ℕ) → q < places c.settings → (b : Bool) → retired c.settings (ledger_later c) q ≡ b
             → (not b || leb (retired_at c.settings (ledger_later c) q).0 (now c).0) ≡ true

@@ -28,12 +28,12 @@ any_from t a (suc n) k h m e = go (ℕ_discrete a k) (λ ne. any_from t (suc a) 
     go (yes z) ih = rw (z, e)
     go (no ne) ih = or_right (t a) (any_of t (from (suc a) n)) (ih ne)
 
-pub all_from : (t : ℕ → Bool) (a n k : ℕ) → a ≤ k → k < a + n → all_of t (from a n) ≡ true → t k ≡ true
+pub all_from_lem : (t : ℕ → Bool) (a n k : ℕ) → a ≤ k → k < a + n → all_of t (from a n) ≡ true → t k ≡ true
 unfolding from all_of
-all_from t a zero k h m e = absurd (omega arith)
-all_from t a (suc n) k h m e =
+all_from_lem t a zero k h m e = absurd (omega arith)
+all_from_lem t a (suc n) k h m e =
     let b = both (t a) (all_of t (from (suc a) n)) e in
-    go (ℕ_discrete a k) b.0 (λ ne. all_from t (suc a) n k (omega (arith, ne)) (omega arith) b.1)
+    go (ℕ_discrete a k) b.0 (λ ne. all_from_lem t (suc a) n k (omega (arith, ne)) (omega arith) b.1)
   where
     go : Dec (a ≡ k) → t a ≡ true → ((a ≡ k → ⊥) → t k ≡ true) → t k ≡ true
     go (yes z) c ih = rw z at c

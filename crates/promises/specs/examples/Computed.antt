@@ -83,8 +83,8 @@ longer_open : Opened
 unfolding Longer.to_four Longer.to_seven Longer.to_eight Longer.still Longer.busy Longer.shows Longer.asked
 longer_open = tt
 
-unsummed : Rows.Holds Rows.row_a × Rows.Holds Rows.row_b × Rows.Holds Rows.row_e × Rows.Holds Rows.rows_fG × Rows.Holds Rows.row_j
-unfolding computing Rows.row_a Rows.row_b Rows.row_e Rows.rows_fG Rows.row_j
+unsummed : Rows.Holds Rows.row_a × Rows.Holds Rows.row_b × Rows.Holds Rows.row_e × Rows.Holds Rows.rows_fg × Rows.Holds Rows.row_j
+unfolding computing Rows.row_a Rows.row_b Rows.row_e Rows.rows_fg Rows.row_j
 unsummed = (
   more refl (more refl (more refl (more refl (more refl (more refl (more refl (done))))))),
   more refl (more refl (more refl (more refl (more refl (more refl (more refl (done))))))),

@@ -145,8 +145,8 @@ row_e =
     ∷ []
 
 -- f and g: one slot, page 0 changed: a write of page 1 finds none, a read of it is a bypass
-unfoldable pub rows_fG : List Fact
-rows_fG =
+unfoldable pub rows_fg : List Fact
+rows_fg =
     fact (number (writes 1 9) (run (writes 0 7 ∷ []) (start 1 4))) (7 ∷ [])
     ∷ fact (number (read 1 0 (0 ∷ [])) (run (writes 0 7 ∷ []) (start 1 4))) (0 ∷ [])
     ∷ fact (counted (run (writes 0 7 ∷ read 1 0 (0 ∷ []) ∷ []) (start 1 4)).state.meta) (1 ∷ 0 ∷ 1 ∷ 0 ∷ 1 ∷ [])
@@ -176,7 +176,7 @@ row_j =
     ∷ []
 
 unfoldable pub table : List (List Fact)
-table = row_a ∷ row_b ∷ row_c ∷ row_d ∷ row_e ∷ rows_fG ∷ row_h ∷ row_i ∷ row_j ∷ []
+table = row_a ∷ row_b ∷ row_c ∷ row_d ∷ row_e ∷ rows_fg ∷ row_h ∷ row_i ∷ row_j ∷ []
 
 -- the statement, which RowsHold proves by computing
 abbrev pub Holds : List Fact → Type 0

@@ -5,7 +5,7 @@ use Rattle.std.proofs.lemmas.Bool.{false≢true, not-true}
 use Rattle.std.proofs.Math.Option.{Option, some}
 use Rattle.std.proofs.Common.{arith, eq-eqb, lt-ltb, le-leb, eqb-true, ltb-true, leb-true}
 use Rattle.lists.specs.Below.{below}
-use Rattle.lists.specs.laws.Below.{every_from, all_from}
+use Rattle.lists.specs.laws.Below.{every_from, all_from_lem}
 use Rattle.lists.specs.laws.Bools.{both, and_make, or_left, or_right, or_drop}
 use Rattle.lists.specs.Scans.{Every, all_of}
 use Rattle.lists.specs.laws.Scans.{every_map, every_all_of, all_of_every, head, tail}
@@ -121,7 +121,7 @@ rule_facts w h =
           λ q b r.
           leb-true (retired_at s w.ledger q).0 w.state.closed.0
           (unless (retired s w.ledger q) (leb (retired_at s w.ledger q).0 w.state.closed.0)
-          (all_from (λ q. not (retired s w.ledger q) || leb (retired_at s w.ledger q).0 w.state.closed.0) 0 (places s) q (omega arith) (omega arith) i.1)
+          (all_from_lem (λ q. not (retired s w.ledger q) || leb (retired_at s w.ledger q).0 w.state.closed.0) 0 (places s) q (omega arith) (omega arith) i.1)
           r);
     }
 
@@ -195,7 +195,7 @@ kind_facts w h =
       slot_kinds =
           λ i m v.
           eqb-true (kind_of w (page_at t i)) 0
-          (or_drop (vacant t i) (metadata w (page_at t i)) (all_from (λ i. vacant t i || metadata w (page_at t i)) 0 (slot_count w) i (omega arith) (omega arith) b.0) v);
+          (or_drop (vacant t i) (metadata w (page_at t i)) (all_from_lem (λ i. vacant t i || metadata w (page_at t i)) 0 (slot_count w) i (omega arith) (omega arith) b.0) v);
       entry_kinds = every_map (λ e k. eqb-true (kind_of w (page_of e)) 0 k) (entries_of w) (all_of_every (λ e. metadata w (page_of e)) (entries_of w) b.1);
     }
 

@@ -1,18 +1,18 @@
 -- What is told is one thing (document 01, "What the contracts pin"). What a desk takes, and what it holds, is told: its header
 -- and the entries of its index. Assumes nothing.
-use Rattle.std.specs.Prelude.{ℕ, ◌+◌, ◌<◌, Bool, true, List, ◌∷◌, ◌++◌, ◌≡◌, eqb, leb, length, take, drop}
-use Rattle.std.proofs.Common.{◌∙◌, sym, ap, arith}
+use Rattle.std.specs.Prelude.{ℕ, ◌+◌, ◌<◌, Bool, true, List, ◌∷◌, ◌++◌, ◌≡◌, length, take, drop}
+use Rattle.std.proofs.Common.{◌∙◌, sym, arith}
 use borrow.Author.Tests.{eq-eqb, le-leb, lt-ltb}
 use Rattle.lists.specs.Scans.{done, more}
 use Rattle.octets.specs.Number.{le16, le32}
 use Rattle.octets.specs.Rows.{row}
-use Rattle.units.specs.Sizes.{header_length, index_row, limits, entries, index_end}
+use Rattle.units.specs.Sizes.{header_length, index_row, entries, index_end}
 use Rattle.units.specs.Tests.{passes}
 use Rattle.units.specs.laws.Tests.{every_passes, passes_append, passes_both, tested_passes}
 use Rattle.units.specs.declared.Settings.{Settings}
 use Rattle.sidefile.specs.Encode.{checksum, header_of, index_entry_of, index_of}
 use Rattle.sidefile.specs.Judge.{mark_tests, header_tests, index_tests, reaches, holds, whole_tests, held_tests}
-use Rattle.sidefile.specs.inner.Passed.{most_front, HeaderPassed, header_passed, indexed_whole}
+use Rattle.sidefile.specs.inner.Passed.{HeaderPassed, header_passed, indexed_whole}
 use Rattle.sidefile.specs.inner.Table.{index_entries, entry_next}
 use Rattle.sidefile.specs.Told.{told_tests, untold, told_of, told, entry_of, entry_told}
 use Rattle.sidefile.specs.declared.IndexEntry.{IndexEntry}

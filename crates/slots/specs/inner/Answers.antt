@@ -8,9 +8,9 @@ use Rattle.slots.specs.declared.Found.TheVariants.{At, Nothing}
 use Rattle.slots.specs.declared.Seating.{Seating}
 use Rattle.slots.specs.declared.Slots.{Slots}
 
-abbrev pub toOption : Found → Option ℕ
-toOption (At i) = some i
-toOption Nothing = none
+abbrev pub to_option : Found → Option ℕ
+to_option (At i) = some i
+to_option Nothing = none
 
 -- the seat that a page gets, without the table that it makes
 abbrev pub seating : Option Seat → Seating

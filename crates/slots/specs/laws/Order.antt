@@ -6,7 +6,7 @@ use Rattle.std.proofs.Math.Option.{Option, some, none}
 use Rattle.std.proofs.Math.Decide.{ℕ_discrete}
 use Rattle.std.proofs.lemmas.Bool.{eqb-false}
 use Rattle.lists.specs.Below.{from, below}
-use Rattle.lists.specs.laws.Below.{every_from, any_from, all_from}
+use Rattle.lists.specs.laws.Below.{every_from, any_from, all_from_lem}
 use Rattle.lists.specs.Bools.{if_then}
 use Rattle.lists.specs.laws.Bools.{not_both, or_drop}
 use Rattle.lists.specs.Scans.{Every, done, more, all_of, any_of, first}
@@ -151,7 +151,7 @@ all_below t a n h = every_all_of t (λ i k. h i k.0 k.1) (from a n) (every_from 
 -- every number below n passes t, unless it passes s
 module _ (s t : ℕ → Bool) (n : ℕ) where
   pub unless : all_of (λ i. s i || t i) (below n) ≡ true → (i : ℕ) → i < n → s i ≡ false → t i ≡ true
-  unless e i h f = or_drop (s i) (t i) (all_from (λ i. s i || t i) 0 n i (omega arith) (omega arith) e) f
+  unless e i h f = or_drop (s i) (t i) (all_from_lem (λ i. s i || t i) 0 n i (omega arith) (omega arith) e) f
 
   pub unless_back : ((i : ℕ) → i < n → s i ≡ false → t i ≡ true) → all_of (λ i. s i || t i) (below n) ≡ true
   unless_back h = all_below (λ i. s i || t i) 0 n (λ i _ k. go i (s i) (h i (omega arith)))

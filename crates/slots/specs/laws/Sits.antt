@@ -12,7 +12,7 @@ use Rattle.std.proofs.Math.Decide.{ℕ_discrete, dec_lt}
 use Rattle.std.proofs.Math.Dec.{eqb}
 use borrow.Author.Tests.{eq-eqb, ne_eqb, lt-ltb, le-leb, eqb-true, ltb-true, leb-true, not-true, not-false}
 use Rattle.lists.specs.Below.{from, below}
-use Rattle.lists.specs.laws.Below.{every_from, any_from, all_from}
+use Rattle.lists.specs.laws.Below.{every_from, any_from, all_from_lem}
 use Rattle.lists.specs.Bools.{if_then}
 use Rattle.lists.specs.laws.Bools.{not_both, false_of, both}
 use Rattle.lists.specs.Scans.{Every, done, more, all_of, any_of}
@@ -89,7 +89,7 @@ sits S end t w few h =
       once = λ i k v. eqb-true (times (page_at t i) (uses t)) 1 (unless (vacant t) (λ i. eqb (times (page_at t i) (uses t)) 1) S f.once i k v);
       listed = every_map listed (uses t) (all_of_every (λ p. ltb p end && is_some (slot_of S t p)) (uses t) f.listed);
       changed = λ i k c. not-true (vacant t i) (unless (λ i. not (changed_at t i)) (λ i. not (vacant t i)) S f.changed i k (ap not c));
-      spare = λ i k m. spare i (all_from (λ i. vacant t i && not (changed_at t i)) S (16 - S) i k (omega arith) f.spare);
+      spare = λ i k m. spare i (all_from_lem (λ i. vacant t i && not (changed_at t i)) S (16 - S) i k (omega arith) f.spare);
     }
   where
     listed : (p : ℕ) → (ltb p end && is_some (slot_of S t p)) ≡ true → Listed S end t p

@@ -1,0 +1,4 @@
+use Rattle.recorder.proofs.State.used.Goals as goal
+
+pub returns : goal.returns
+returns c = cc

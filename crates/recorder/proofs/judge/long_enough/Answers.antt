@@ -1,0 +1,36 @@
+use Prim.Native.Nat.{ℕ, ◌≤◌}
+use mathlib.Core.List.{[]}
+use mathlib.Core.Path.{◌∙◌, ap}
+use native.Mathlib.Omega.{arith}
+use lib.Dec.{leb}
+use lib.ListN.{length}
+use Rattle.units.specs.Sizes.{base_length, side_length}
+use Rattle.recorder.specs.World.{zero_state}
+use Rattle.recorder.proofs.Judging.{base_short, side_short, buffer_short, kinds_decide}
+use Rattle.recorder.proofs.judge.long_enough.Goals as goal
+
+pub returns-then-base-base_length : goal.returns-then-base-base_length
+returns-then-base-base_length c =
+    let a = c.args in
+    base_short a.settings zero_state [] a.base.now a.side.now a.buffer.now a.kinds.now (omega (arith, c.base_length.ensures.0))
+
+pub returns-then-side-side_length : goal.returns-then-side-side_length
+returns-then-side-side_length c =
+    let long-base : base_length c.args.settings ≤ length c.args.base.now = omega (arith, c.base_length.ensures.0) in
+    let a = c.args in
+    side_short a.settings zero_state [] a.base.now a.side.now a.buffer.now a.kinds.now long-base (omega (arith, c.side_length.ensures.0))
+
+pub returns-then-buffer-buffer_length : goal.returns-then-buffer-buffer_length
+returns-then-buffer-buffer_length c =
+    let long-base : base_length c.args.settings ≤ length c.args.base.now = omega (arith, c.base_length.ensures.0) in
+    let long-side : side_length c.args.settings ≤ length c.args.side.now = omega (arith, c.side_length.ensures.0) in
+    let a = c.args in
+    buffer_short a.settings zero_state [] a.base.now a.side.now a.buffer.now a.kinds.now long-base long-side (omega (arith, c.buffer_length.ensures.0))
+
+pub returns : goal.returns
+returns c =
+    let long-base : base_length c.args.settings ≤ length c.args.base.now = omega (arith, c.base_length.ensures.0) in
+    let long-side : side_length c.args.settings ≤ length c.args.side.now = omega (arith, c.side_length.ensures.0) in
+    let a = c.args in
+    ap (λ (n : ℕ). leb n (length a.kinds.now)) c.wide.ensures.0
+    ∙ kinds_decide a.settings zero_state [] a.base.now a.side.now a.buffer.now a.kinds.now long-base long-side (omega (arith, c.buffer_length.ensures.0))

@@ -1,0 +1,13 @@
+use Rattle.sidefile.specs.Encode.{index_entry_of}
+use Rattle.sidefile.specs.inner.Table.{column}
+use Rattle.sidefile.proofs.rows.entry.Goals as goal
+
+pub returns : goal.returns
+unfolding index_entry_of column
+returns c =
+    λ i. record {
+      page = record { 0 = c.number.ensures.0 i };
+      place = record { 0 = c.number-2.ensures.0 i };
+      changed = record { 0 = c.number-3.ensures.0 i };
+      sum = c.number-4.ensures.0 i;
+    }

@@ -1,0 +1,6 @@
+use Rattle.units.specs.Ages.{reusable}
+use Rattle.units.proofs.Tick.reusable.Goals as goal
+
+pub returns : goal.returns
+unfolding reusable
+returns c = cc
