@@ -1,6 +1,7 @@
 // The listing of a side file (document 01, "Listing"): what the program `sidelist` prints, as a function of the bytes it
 // reads, and what it keeps of them. Its text is specs/Text's `listing`.
 #![tactic(auto)]
+
 pub mod input;
 pub mod lines;
 pub mod text;

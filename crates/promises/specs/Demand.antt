@@ -44,7 +44,7 @@ abbrev pub WithinLag : Recording → List Call → Type 0
 WithinLag r more = (later r more).state.closed.0 ≤ (reached r).state.closed.0 + r.settings.lag
 
 -- Clause: the desk has the index of that close: its held buffer begins with the header and index of it. A take or a refresh
--- at that close, or later in the same open tick, leaves it so (Holding: take-holds, refresh-holds).
+-- at that close, or later in the same open tick, leaves it so (Holding: take_holds, refresh_holds).
 abbrev pub HoldsIndex : Recording → List ℕ → Type 0
 HoldsIndex r held = part held 0 (index_end r.settings) ≡ part (reached r).side 0 (index_end r.settings)
 

@@ -1,6 +1,6 @@
 -- What the recorder closes is listed (document 01, "Listing"): at every close of a recording, what sidelist prints of the side
 -- file are the closed tick, e and the entries that the recorder has. The example's listing is computed beside the rows (Rows,
--- examples/Computed: listing-holds). Assumes nothing.
+-- proofs/Computed: listing_holds). Assumes nothing.
 use Rattle.std.specs.Prelude.{ℕ, ◌≡◌, ◌++◌, length}
 use Rattle.std.proofs.Common.{◌∙◌, ap}
 use Rattle.recorder.specs.Runs.{Recording, opening, reached}

@@ -1,6 +1,6 @@
 -- One outcome (document 01, "What the contracts pin"): two answers that an export's contract allows for the same input are
 -- equal. Here those that answer a number or a struct and write nothing: the checksum, the lengths and what a state says (cabi:
--- lib, lengths, fields). The recorder's five calls have it in Performed (one-outcome), the desk's calls in desk/laws/OneOutcome.
+-- lib, lengths, fields). The recorder's five calls have it in Performed (one_outcome), the desk's calls in desk/laws/OneOutcome.
 -- Assumes nothing.
 use Rattle.std.specs.Prelude.{ℕ, ◌≡◌, List}
 use Rattle.std.proofs.Common.{◌∙◌, sym}

@@ -2,7 +2,7 @@
 -- close of a recording and refreshes at a later close of the same recording, within the maximum lag. A metadata page that is
 -- not marked was in the file at both closes and held the same bytes at both; one that came into the file in between is
 -- marked; and a marked page has an entry whose last change is after the held tick, which is all that a refresh compares.
--- The statement, over recordings as Demand.antt has them; desks/Telling proves it (refresh-tells).
+-- The statement, over recordings as Demand.antt has them; desks/Telling proves it (refresh_tells).
 use Rattle.std.specs.Prelude.{ℕ, ◌+◌, ◌<◌, ◌≤◌, List, ◌++◌, ◌≡◌, ◌⊎◌, length, get_or}
 use Rattle.std.proofs.Math.Option.{some}
 use Rattle.ledger.specs.Entries.{find}

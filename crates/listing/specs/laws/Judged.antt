@@ -2,7 +2,7 @@
 use Rattle.std.specs.Prelude.{ℕ, ◌+◌, ◌*◌, ◌≤◌, min, ◌≡◌, true, List, ◌++◌, length}
 use Rattle.std.proofs.Common.{arith}
 use Rattle.units.specs.laws.Bounds.{limits_within, entries_most}
-use Rattle.units.specs.Sizes.{header_length, index_row, entries, index_end}
+use Rattle.units.specs.Sizes.{header_length, index_row, index_end}
 use Rattle.units.specs.Tests.{passes, verdict}
 use Rattle.units.specs.laws.Tests.{tested_passes, passes_both, refused_by}
 use Rattle.sidefile.specs.Encode.{header_of, index_of}
