@@ -1,11 +1,8 @@
 -- What reading and listing an input leave. No contract can say which bytes the system hands over, so the input is a list that
 -- stands in the fact itself: whatever came, all of it is counted, its first bytes are kept, and its listing is the text.
-use Rattle.std.specs.Prelude.{ℕ, ◌≤◌, List, ◌≡◌, length, take}
-use Rattle.io.specs.Counts.{IsPrefixLen}
+use Rattle.std.specs.Prelude.{ℕ, ◌≤◌, List, ◌≡◌, length, take, Result, Ok, Err}
 use Rattle.octets.specs.Part.{lay}
 use Rattle.listing.specs.Text.{listing}
-use Rattle.sidelist.specs.declared.Count.{Count}
-use Rattle.sidelist.specs.declared.Count.TheVariants.{Bytes, Failed}
 
 -- an input of `total` bytes was laid over a buffer from its front on, and cut off at its end
 pub record Kept (before after : List ℕ) (total : ℕ) : Type 0 where
@@ -20,14 +17,14 @@ pub record Listed (out : List ℕ) (n : ℕ) : Type 0 where
   pub within : n ≤ length out
 
 -- unless a read failed: what one read brings into a buffer, what reading all keeps of an input, its listing
-abbrev pub Came : List ℕ → Count → Type 0
-Came chunk (Bytes n) = IsPrefixLen n chunk
-Came chunk Failed = Unit
+abbrev pub Came : {E : Type 0} → List ℕ → Result ℕ E → Type 0
+Came chunk (Ok n) = (n ≤ length chunk) × (n ≡ length (take n chunk))
+Came chunk (Err e) = Unit
 
-abbrev pub Read : List ℕ → List ℕ → Count → Type 0
-Read before after (Bytes total) = Kept before after total
-Read before after Failed = Unit
+abbrev pub Read : {E : Type 0} → List ℕ → List ℕ → Result ℕ E → Type 0
+Read before after (Ok total) = Kept before after total
+Read before after (Err e) = Unit
 
-abbrev pub Lists : List ℕ → Count → Type 0
-Lists out (Bytes n) = Listed out n
-Lists out Failed = Unit
+abbrev pub Lists : {E : Type 0} → List ℕ → Result ℕ E → Type 0
+Lists out (Ok n) = Listed out n
+Lists out (Err e) = Unit
