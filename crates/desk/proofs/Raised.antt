@@ -178,8 +178,8 @@ module _ (h : Header) (side marks : List ℕ) (m : Markable h side marks) (n : �
   counted : n ≡ (header_of side).entries
   counted = c ∙ ap (λ (h : Header). h.entries) m.read
 
-  rows_of : index_of side ≡ entries_at header_length index_row n side
-  rows_of = index_entries side ∙ ap (λ (k : ℕ). entries_at header_length index_row k side) (sym counted)
+  rows_of_lem : index_of side ≡ entries_at header_length index_row n side
+  rows_of_lem = index_entries side ∙ ap (λ (k : ℕ). entries_at header_length index_row k side) (sym counted)
 
   pub mark_rows : header_length + n * index_row ≤ length side
   mark_rows = rows_fit side m.indexed n counted
@@ -187,12 +187,12 @@ module _ (h : Header) (side marks : List ℕ) (m : Markable h side marks) (n : �
   pub mark_pages : (k : ℕ) → length marks ≡ k → Every (λ x. x.page.0 < k) (entries_at header_length index_row n side)
   mark_pages k e =
       let room : h.end ≤ k = omega (arith, m.room) in
-      every_map (λ x p. omega arith) (entries_at header_length index_row n side) (subst (Every (λ x. x.page.0 < h.end)) rows_of m.pages)
+      every_map (λ x p. omega arith) (entries_at header_length index_row n side) (subst (Every (λ x. x.page.0 < h.end)) rows_of_lem m.pages)
 
   pub mark_made : (t : Tick) (e : ℕ) → e ≡ h.end
       → raised t (entries_at header_length index_row n side) (lay marks 0 (replicate e 0))
       ≡ map (mark_of t (index_of side)) (below h.end) ++ drop h.end marks
-  mark_made t e f = rw (← rows_of, f) (raised_marks t (index_of side) h.end marks m.room m.pages)
+  mark_made t e f = rw (← rows_of_lem, f) (raised_marks t (index_of side) h.end marks m.room m.pages)
 
 pub markable : (side marks : List ℕ) → AllPassed (reaches (length side)) side → (h : Header) → h ≡ header_of side → h.end ≤ length marks
     → Markable h side marks

@@ -23,7 +23,8 @@ pub fn list(s: &[u8], n: usize, out: &mut [u8]) -> usize
     ensures { Written out.old 0 (listing n s.now) out.new result × (result ≤ most_text) }
 {
     let number = judge::judge_whole(s, n);
-    if number != 0 {
+    let damaged = number != 0;
+    if damaged {
         return lines::put_refused(out, number);
     }
     let header = headers::header_of(s);

@@ -24,7 +24,8 @@ pub fn put_decimal(out: &mut [u8], at: usize, v: u32) -> usize
     requires { at + 10 ≤ length out.old }
     ensures { Written out.old at (decimal v) out.new result × (result ≤ at + 10) }
 {
-    if v < 10 {
+    let one_digit = v < 10;
+    if one_digit {
         return put_byte(out, at, b'0' + v as u8);
     }
     let end = put_decimal(out, at, v / 10);

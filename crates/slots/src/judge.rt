@@ -63,6 +63,7 @@ fn rows_kept(
     true
 }
 
+#[tactic(auto, using(crate::proofs::Turns::uses_here, crate::proofs::Turns::uses_next, crate::proofs::Turns::uses_end), unfolding(crate::specs::inner::Judged::use_kept))]
 fn uses_kept(pages: [Page; 16], order: [Page; 16], used: usize, end: u32) -> bool
     requires { used ≤ 16 }
     ensures { result ≡ all_of (use_kept end pages) (numbers_of used order) }

@@ -19,22 +19,25 @@ lines s h n e m =
     (λ i. head_line (e i) ++ entry_lines (entries_at header_length index_row ((m ∙ ap (λ (g : Header). g.entries) e) i) s))
     ∙ ap (λ (l : List IndexEntry). head_line (header_of s) ++ entry_lines l) (sym (index_entries s))
 
-pub returns-then-number-ne0 : goal.returns-then-number-ne0
-returns-then-number-ne0 c =
+pub returns-then-damaged : goal.returns-then-damaged
+returns-then-damaged c =
     let a = c.args in
-    let e = listing_refused a.n a.s.now _ c.judge_whole-number.ensures c.if-number-ne0.true in
+    let refused : c.judge_whole-number.result ≡ 0 → ⊥ = λ z. omega arith in
+    let e = listing_refused a.n a.s.now _ c.judge_whole-number.ensures refused in
     (written_as (sym e) c.put_refused.ensures.0, search rules)
 
 pub header_of-header-requires : goal.header_of-header-requires
 header_of-header-requires c =
     let a = c.args in
-    let accepted : passes (whole_tests a.n a.s.now) ≡ true = whole_accepted _ _ (sym c.judge_whole-number.ensures ∙ c.if-number-ne0.false) in
+    let good : c.judge_whole-number.result ≡ 0 = omega arith in
+    let accepted : passes (whole_tests a.n a.s.now) ≡ true = whole_accepted _ _ (sym c.judge_whole-number.ensures ∙ good) in
     omega (arith, accepted_reached _ _ accepted c.requires.0)
 
 pub put_entries-requires : goal.put_entries-requires
 put_entries-requires c =
     let a = c.args in
-    let accepted : passes (whole_tests a.n a.s.now) ≡ true = whole_accepted _ _ (sym c.judge_whole-number.ensures ∙ c.if-number-ne0.false) in
+    let good : c.judge_whole-number.result ≡ 0 = omega arith in
+    let accepted : passes (whole_tests a.n a.s.now) ≡ true = whole_accepted _ _ (sym c.judge_whole-number.ensures ∙ good) in
     let reached : header_length + index_row * (header_of a.s.now).entries ≤ length a.s.now = accepted_reached _ _ accepted c.requires.0 in
     let few : (header_of a.s.now).entries ≤ 144 = accepted_few _ _ accepted c.requires.0 in
     let counted : c.wide.result ≡ (header_of a.s.now).entries = c.wide.ensures.0 ∙ ap (λ (g : Header). g.entries) c.header_of-header.ensures in
@@ -43,7 +46,8 @@ put_entries-requires c =
 pub returns : goal.returns
 returns c =
     let a = c.args in
-    let accepted : passes (whole_tests a.n a.s.now) ≡ true = whole_accepted _ _ (sym c.judge_whole-number.ensures ∙ c.if-number-ne0.false) in
+    let good : c.judge_whole-number.result ≡ 0 = omega arith in
+    let accepted : passes (whole_tests a.n a.s.now) ≡ true = whole_accepted _ _ (sym c.judge_whole-number.ensures ∙ good) in
     let few : (header_of a.s.now).entries ≤ 144 = accepted_few _ _ accepted c.requires.0 in
     let counted : c.wide.result ≡ (header_of a.s.now).entries = c.wide.ensures.0 ∙ ap (λ (g : Header). g.entries) c.header_of-header.ensures in
     let l = lines a.s.now c.header_of-header.result c.wide.result c.header_of-header.ensures c.wide.ensures.0 in
