@@ -75,6 +75,12 @@ pub record Left (w : World) (N : Tick) (p : Lists) (kept : ℕ) (ledger : List �
   pub count : kept ≡ length (others p.going (entries_in w.state.entries w.ledger))
   pub bytes : ledger ≡ lay w.ledger 0 (settled w.state.settings w.ledger w.state.entries p.going N)
 
+pub left_by : (w : World) (N : Tick) (p : Lists) (n : ℕ) → n ≡ w.state.entries
+    → (kept : ℕ) → kept ≡ length (others p.going (entries_in n w.ledger))
+    → (ledger : List ℕ) → ledger ≡ lay w.ledger 0 (settled w.state.settings w.ledger n p.going N)
+    → Left w N p kept ledger
+left_by w N p n e kept c ledger b = record { count = rw e at c; bytes = rw e at b }
+
 -- and once it is renewed: how many entries there are, and its bytes
 pub record Anew (w : World) (N : Tick) (p : Lists) (sums : List ℕ) (n : ℕ) (ledger : List ℕ) : Type 0 where
   pub summed : Summed w N p sums

@@ -69,8 +69,3 @@ returns c =
     ∙ sym l.invariant.2
     ∙ ap (raised a.held (entries_at header_length index_row n.result a.side.now)) c.clear.ensures
     ∙ mark_made a.header a.side.now a.marks.now c.requires n.result n.ensures.0 a.held _ c.wide.ensures.0
-
--- LEFT
--- -- no goal for Need-same-length
--- same_length : tie.Need-same-length invariant-loop decreases-loop
--- same_length c = c.before.loop.invariant.1 ∙ (cleared c.before).clear.kept.0

@@ -27,7 +27,7 @@ loop-i-preserved c =
       search rules,
       c.copy.ensures
           ∙ rw l.invariant.4
-          (index_next a.s.now a.n a.side.now (λ k. (c.shared_slice_known-1.given k).fits) l.i l.at (omega arith) (omega (arith, c.requires.2)) l.invariant.1),
+          (index_next a.s.now a.n a.side.now (search rules) l.i l.at (omega arith) (omega (arith, c.requires.2)) l.invariant.1),
     )
 
 pub returns : goal.returns

@@ -54,8 +54,3 @@ returns c =
       ap (λ (m : ℕ). take m c.loop-j.entered) e ∙ c.loop-j.invariant.4 ∙ ap (entry_ticks a.tick es) w,
       c.loop-j.invariant.2,
     )
-
--- LEFT
--- -- no goal for Need-same-length
--- same_length : tie.Need-same-length invariant-loop decreases-loop
--- same_length c = omega (arith, flagged (start c.before.before))
