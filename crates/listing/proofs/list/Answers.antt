@@ -1,4 +1,4 @@
-use Rattle.std.proofs.Common.{ℕ, ◌+◌, ◌*◌, ◌≤◌, ◌≡◌, ◌∙◌, sym, ap, List, ◌++◌, length, true, arith, rules}
+use Rattle.std.proofs.Common.{ℕ, ◌≡◌, ◌∙◌, sym, ap, List, ◌++◌, true, arith, rules}
 use Rattle.units.specs.Tests.{passes}
 use Rattle.units.specs.Sizes.{header_length, index_row}
 use Rattle.sidefile.specs.Judge.{whole_tests}
@@ -11,6 +11,7 @@ use Rattle.listing.specs.Text.{head_line, entry_lines}
 use Rattle.listing.specs.laws.Judged.{listing_accepted, listing_refused, accepted_few, accepted_reached}
 use Rattle.listing.specs.inner.Written.{written_as, written_next}
 use Rattle.listing.proofs.list.Goals as goal
+use Rattle.listing.proofs.list.Goals.{Else-damaged, After-wide}
 
 -- the header that was read, and as many entries as it says
 lines : (s : List ℕ) (h : Header) (n : ℕ) → h ≡ header_of s → n ≡ h.entries
@@ -18,6 +19,15 @@ lines : (s : List ℕ) (h : Header) (n : ℕ) → h ≡ header_of s → n ≡ h.
 lines s h n e m =
     (λ i. head_line (e i) ++ entry_lines (entries_at header_length index_row ((m ∙ ap (λ (g : Header). g.entries) e) i) s))
     ∙ ap (λ (l : List IndexEntry). head_line (header_of s) ++ entry_lines l) (sym (index_entries s))
+
+-- the side file passed, so its header says how many entries there are, and they are there
+accepted : (c : Else-damaged) → passes (whole_tests c.args.n c.args.s.now) ≡ true
+accepted c =
+    let good : c.judge_whole-number.result ≡ 0 = omega arith in
+    whole_accepted _ _ (sym c.judge_whole-number.ensures ∙ good)
+
+counted : (c : After-wide) → c.wide.result ≡ (header_of c.args.s.now).entries
+counted c = c.wide.ensures.0 ∙ ap (λ (g : Header). g.entries) c.header_of-header.ensures
 
 pub returns-then-damaged : goal.returns-then-damaged
 returns-then-damaged c =
@@ -28,27 +38,22 @@ returns-then-damaged c =
 
 pub header_of-header-requires : goal.header_of-header-requires
 header_of-header-requires c =
-    let a = c.args in
-    let good : c.judge_whole-number.result ≡ 0 = omega arith in
-    let accepted : passes (whole_tests a.n a.s.now) ≡ true = whole_accepted _ _ (sym c.judge_whole-number.ensures ∙ good) in
-    omega (arith, accepted_reached _ _ accepted c.requires.0)
+    let passed = accepted (goal.at.header_of-header-requires c).Else-damaged in
+    omega (arith, accepted_reached _ _ passed c.requires.0)
 
 pub put_entries-requires : goal.put_entries-requires
 put_entries-requires c =
-    let a = c.args in
-    let good : c.judge_whole-number.result ≡ 0 = omega arith in
-    let accepted : passes (whole_tests a.n a.s.now) ≡ true = whole_accepted _ _ (sym c.judge_whole-number.ensures ∙ good) in
-    let reached : header_length + index_row * (header_of a.s.now).entries ≤ length a.s.now = accepted_reached _ _ accepted c.requires.0 in
-    let few : (header_of a.s.now).entries ≤ 144 = accepted_few _ _ accepted c.requires.0 in
-    let counted : c.wide.result ≡ (header_of a.s.now).entries = c.wide.ensures.0 ∙ ap (λ (g : Header). g.entries) c.header_of-header.ensures in
+    let passed = accepted (goal.at.put_entries-requires c).Else-damaged in
+    let reached = accepted_reached _ _ passed c.requires.0 in
+    let few = accepted_few _ _ passed c.requires.0 in
+    let all = counted (goal.at.put_entries-requires c).After-wide in
     omega arith
 
 pub returns : goal.returns
 returns c =
     let a = c.args in
-    let good : c.judge_whole-number.result ≡ 0 = omega arith in
-    let accepted : passes (whole_tests a.n a.s.now) ≡ true = whole_accepted _ _ (sym c.judge_whole-number.ensures ∙ good) in
-    let few : (header_of a.s.now).entries ≤ 144 = accepted_few _ _ accepted c.requires.0 in
-    let counted : c.wide.result ≡ (header_of a.s.now).entries = c.wide.ensures.0 ∙ ap (λ (g : Header). g.entries) c.header_of-header.ensures in
+    let passed = accepted (goal.at.returns c).Else-damaged in
+    let few = accepted_few _ _ passed c.requires.0 in
+    let all = counted (goal.at.returns c).After-wide in
     let l = lines a.s.now c.header_of-header.result c.wide.result c.header_of-header.ensures c.wide.ensures.0 in
-    (written_as (l ∙ sym (listing_accepted a.n a.s.now accepted)) (written_next c.put_head-at.ensures.0 c.put_entries.ensures.0), omega arith)
+    (written_as (l ∙ sym (listing_accepted a.n a.s.now passed)) (written_next c.put_head-at.ensures.0 c.put_entries.ensures.0), omega arith)

@@ -2,10 +2,14 @@ use Prim.Native.Nat.{ℕ, ◌+◌}
 use mathlib.Core.Path.{◌≡◌, ◌∙◌, sym, ap}
 use Rattle.desk.proofs.Spans.{image_wrong, image_right}
 use Rattle.desk.proofs.locate.in_image.Goals as goal
+use Rattle.desk.proofs.locate.in_image.Goals.{After-wide}
+
+bounds : (c : After-wide) → c.image_at-at.result + c.wide.result ≡ c.image_at-at.result + c.args.settings.size
+bounds c = ap (λ (n : ℕ). c.image_at-at.result + n) c.wide.ensures.0
 
 pub returns-then-checksum-x : goal.returns-then-checksum-x
 returns-then-checksum-x c =
-    let bounds : c.image_at-at.result + c.wide.result ≡ c.image_at-at.result + c.args.settings.size = ap (λ (n : ℕ). c.image_at-at.result + n) c.wide.ensures.0 in
+    let bounds = bounds (goal.at.returns-then-checksum-x c).After-wide in
     let a = c.args in
     let at = c.image_at-at in
     c.refuse.ensures
@@ -14,7 +18,7 @@ returns-then-checksum-x c =
 
 pub returns : goal.returns
 returns c =
-    let bounds : c.image_at-at.result + c.wide.result ≡ c.image_at-at.result + c.args.settings.size = ap (λ (n : ℕ). c.image_at-at.result + n) c.wide.ensures.0 in
+    let bounds = bounds (goal.at.returns c).After-wide in
     let a = c.args in
     let at = c.image_at-at in
     rw (c.wide-2.ensures.0, c.wide-3.ensures.0)

@@ -8,7 +8,16 @@ use Rattle.units.specs.Sizes.{header_length, index_row}
 use Rattle.sidefile.specs.inner.Table.{entries_at}
 use Rattle.desk.proofs.Raised.{raised, raise_late, raise_early, raise_end, page_in, mark_rows, mark_pages, mark_made}
 use Rattle.desk.proofs.marks.mark.Goals as goal
-use Rattle.desk.proofs.marks.mark.Goals.{else-held-number, then-held-number}
+use Rattle.desk.proofs.marks.mark.Goals.{In-loop-i, else-held-number, then-held-number}
+
+row_fits : (c : In-loop-i) → (header_length + c.loop-i.i * index_row + index_row ≤ length c.args.side.now) × (4 * 2 + 4 ≤ index_row)
+row_fits c =
+    let n = c.wide-n in
+    omega (
+      arith,
+      row_in index_row c.loop-i.i n.result (omega arith),
+      mark_rows _ _ _ c.requires _ n.ensures.0,
+    )
 
 pub clear-requires : goal.clear-requires
 clear-requires c =
@@ -18,23 +27,11 @@ pub loop-i-init : goal.loop-i-init
 loop-i-init c = (search rules, refl, refl)
 
 pub number-requires : goal.number-requires
-number-requires c =
-    let row_fits : (header_length + c.loop-i.i * index_row + index_row ≤ length c.args.side.now) × (4 * 2 + 4 ≤ index_row) = let n = c.wide-n in
-    omega (
-      arith,
-      row_in index_row c.loop-i.i n.result (omega arith),
-      mark_rows _ _ _ c.requires _ n.ensures.0,
-    ) in
-    row_fits
+number-requires c = row_fits (goal.at.number-requires c).In-loop-i
 
 pub number-requires-then-held-number : goal.number-requires-then-held-number
 number-requires-then-held-number c =
-    let row_fits : (header_length + c.loop-i.i * index_row + index_row ≤ length c.args.side.now) × (4 * 2 + 4 ≤ index_row) = let n = c.wide-n in
-    omega (
-      arith,
-      row_in index_row c.loop-i.i n.result (omega arith),
-      mark_rows _ _ _ c.requires _ n.ensures.0,
-    ) in
+    let row_fits = row_fits (goal.at.number-requires-then-held-number c).In-loop-i in
     (row_fits.0, search rules)
 
 pub bounds-marks-page : goal.bounds-marks-page

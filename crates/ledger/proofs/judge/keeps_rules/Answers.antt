@@ -12,6 +12,18 @@ use Rattle.ledger.specs.laws.Read.{entries_indexed}
 use Rattle.ledger.specs.View.{indexed, entries_in}
 use Rattle.ledger.proofs.Judging.{held_judged, judge_pages, judge_ticks, judge_places, judge_all}
 use Rattle.ledger.proofs.judge.keeps_rules.Goals as goal
+use Rattle.ledger.proofs.judge.keeps_rules.Goals.{After-ascending_below, After-ticks_fit}
+
+-- what each says
+pages : (c : After-ascending_below) → c.ascending_below.result ≡ pages_fit c.args.end (map indexed (entries_in c.args.n c.args.s.now))
+pages c =
+    let a = c.args in
+    c.ascending_below.ensures ∙ ap (pages_fit a.end) (entries_indexed a.n a.s.now)
+
+ticks : (c : After-ticks_fit) → c.ticks_fit.result ≡ all_of (ticks_fit (wait c.args.settings) c.args.closed (sits c.args.settings.slots c.args.seats)) (entries_in c.args.n c.args.s.now)
+ticks c =
+    let a = c.args in
+    c.ticks_fit.ensures ∙ (λ i. all_of (ticks_fit (c.wait.ensures i) a.closed (sits (c.wide.ensures.0 i) a.seats)) (entries_in a.n a.s.now))
 
 pub ascending_below-requires : goal.ascending_below-requires
 unfolding ledger_length places_at
@@ -19,8 +31,7 @@ ascending_below-requires c = (omega (arith, c.requires.1, c.requires.2), omega a
 
 pub returns-then-not-ascending_below : goal.returns-then-not-ascending_below
 returns-then-not-ascending_below c =
-    let pages : c.ascending_below.result ≡ pages_fit c.args.end (map indexed (entries_in c.args.n c.args.s.now)) = let a = c.args in
-    c.ascending_below.ensures ∙ ap (pages_fit a.end) (entries_indexed a.n a.s.now) in
+    let pages = pages (goal.at.returns-then-not-ascending_below c).After-ascending_below in
     let a = c.args in
     judge_pages a.settings a.end a.closed (sits c.args.settings.slots c.args.seats) a.n a.s.now (sym pages ∙ c.if-not-ascending_below.true)
 
@@ -32,8 +43,7 @@ ticks_fit-requires c =
 
 pub returns-then-not-ticks_fit : goal.returns-then-not-ticks_fit
 returns-then-not-ticks_fit c =
-    let ticks : c.ticks_fit.result ≡ all_of (ticks_fit (wait c.args.settings) c.args.closed (sits c.args.settings.slots c.args.seats)) (entries_in c.args.n c.args.s.now) = let a = c.args in
-    c.ticks_fit.ensures ∙ (λ i. all_of (ticks_fit (c.wait.ensures i) a.closed (sits (c.wide.ensures.0 i) a.seats)) (entries_in a.n a.s.now)) in
+    let ticks = ticks (goal.at.returns-then-not-ticks_fit c).After-ticks_fit in
     let a = c.args in
     judge_ticks a.settings a.end a.closed (sits c.args.settings.slots c.args.seats) a.n a.s.now (sym ticks ∙ c.if-not-ticks_fit.true)
 
@@ -51,10 +61,8 @@ returns-then-not-held_places c =
 
 pub returns : goal.returns
 returns c =
-    let pages : c.ascending_below.result ≡ pages_fit c.args.end (map indexed (entries_in c.args.n c.args.s.now)) = let a = c.args in
-    c.ascending_below.ensures ∙ ap (pages_fit a.end) (entries_indexed a.n a.s.now) in
-    let ticks : c.ticks_fit.result ≡ all_of (ticks_fit (wait c.args.settings) c.args.closed (sits c.args.settings.slots c.args.seats)) (entries_in c.args.n c.args.s.now) = let a = c.args in
-    c.ticks_fit.ensures ∙ (λ i. all_of (ticks_fit (c.wait.ensures i) a.closed (sits (c.wide.ensures.0 i) a.seats)) (entries_in a.n a.s.now)) in
+    let pages = pages (goal.at.returns c).After-ascending_below in
+    let ticks = ticks (goal.at.returns c).After-ticks_fit in
     let apart : let a = c.args in c.held_places.result ≡ places_fit (places a.settings) (map indexed (entries_in a.n a.s.now)) = let a = c.args in
     c.held_places.ensures.0 ∙ ap (λ (m : ℕ). places_fit m (map indexed (entries_in a.n a.s.now))) c.places.ensures.0 in
     let a = c.args in

@@ -11,7 +11,10 @@ use Rattle.ledger.specs.inner.Fits.{place_fits}
 use Rattle.ledger.proofs.Judging.{row_fits, places_judged, place_free, place_late, place_held, place_fits_lem}
 use borrow.Author.Rules.{rules}
 use Rattle.ledger.proofs.judge.places_fit.Goals as goal
-use Rattle.ledger.proofs.judge.places_fit.Goals.{else-number-ne0, then-number-ne0+else-closed-number+else-flag}
+use Rattle.ledger.proofs.judge.places_fit.Goals.{At-loop-q, else-number-ne0, then-number-ne0+else-closed-number+else-flag}
+
+judged : (c : At-loop-q) → all_of (row_fits c.places_at-at.result c.args.s.now c.args.closed (flags c.args.held.now)) (below c.places-m.result) ≡ all_of (λ q. place_fits c.args.settings c.args.closed c.args.s.now (get_or (flags c.args.held.now) q false) q) (below (places c.args.settings))
+judged c = places_judged c.args.settings c.args.closed c.args.s.now (flags c.args.held.now) c.places_at-at.result c.places-m.result c.places_at-at.ensures.0 c.places-m.ensures.0
 
 pub loop-q-init : goal.loop-q-init
 unfolding ledger_length
@@ -21,7 +24,7 @@ loop-q-init c =
 
 pub returns-then-closed-number : goal.returns-then-closed-number
 returns-then-closed-number c =
-    let judged : all_of (row_fits c.places_at-at.result c.args.s.now c.args.closed (flags c.args.held.now)) (below c.places-m.result) ≡ all_of (λ q. place_fits c.args.settings c.args.closed c.args.s.now (get_or (flags c.args.held.now) q false) q) (below (places c.args.settings)) = places_judged c.args.settings c.args.closed c.args.s.now (flags c.args.held.now) c.places_at-at.result c.places-m.result c.places_at-at.ensures.0 c.places-m.ensures.0 in
+    let judged = judged (goal.at.returns-then-closed-number c).At-loop-q in
     let a = c.args in
     sym (sym judged ∙ c.loop-q.invariant.3
     ∙ all_stop (row_fits c.places_at-at.result c.args.s.now c.args.closed (flags c.args.held.now)) c.places-m.result c.loop-q.q (omega arith)
@@ -29,7 +32,7 @@ returns-then-closed-number c =
 
 pub returns-then-flag : goal.returns-then-flag
 returns-then-flag c =
-    let judged : all_of (row_fits c.places_at-at.result c.args.s.now c.args.closed (flags c.args.held.now)) (below c.places-m.result) ≡ all_of (λ q. place_fits c.args.settings c.args.closed c.args.s.now (get_or (flags c.args.held.now) q false) q) (below (places c.args.settings)) = places_judged c.args.settings c.args.closed c.args.s.now (flags c.args.held.now) c.places_at-at.result c.places-m.result c.places_at-at.ensures.0 c.places-m.ensures.0 in
+    let judged = judged (goal.at.returns-then-flag c).At-loop-q in
     let a = c.args in
     sym (sym judged ∙ c.loop-q.invariant.3
     ∙ all_stop (row_fits c.places_at-at.result c.args.s.now c.args.closed (flags c.args.held.now)) c.places-m.result c.loop-q.q (omega arith)
@@ -49,5 +52,5 @@ loop-q-preserved c =
 
 pub returns : goal.returns
 returns c =
-    let judged : all_of (row_fits c.places_at-at.result c.args.s.now c.args.closed (flags c.args.held.now)) (below c.places-m.result) ≡ all_of (λ q. place_fits c.args.settings c.args.closed c.args.s.now (get_or (flags c.args.held.now) q false) q) (below (places c.args.settings)) = places_judged c.args.settings c.args.closed c.args.s.now (flags c.args.held.now) c.places_at-at.result c.places-m.result c.places_at-at.ensures.0 c.places-m.ensures.0 in
+    let judged = judged (goal.at.returns c).At-loop-q in
     sym (sym judged ∙ c.loop-q.invariant.3 ∙ all_end (row_fits c.places_at-at.result c.args.s.now c.args.closed (flags c.args.held.now)) c.places-m.result c.loop-q.q (omega arith))

@@ -13,6 +13,10 @@ use Rattle.ledger.proofs.Flagging.{table_bytes}
 use Rattle.ledger.proofs.Placing.{held_none, held_next}
 use borrow.Author.Rules.{rules}
 use Rattle.ledger.proofs.places.held_places.Goals as goal
+use Rattle.ledger.proofs.places.held_places.Goals.{After-wide-place}
+
+read : (c : After-wide-place) → c.wide-place.result ≡ column 1 (row 0 entry_row c.loop-i.i c.args.s.now)
+read c = omega arith
 
 pub loop-i-init : goal.loop-i-init
 unfolding none_met
@@ -34,7 +38,7 @@ returns-then-most-place c =
 
 pub returns-then-flag : goal.returns-then-flag
 returns-then-flag c =
-    let read : c.wide-place.result ≡ column 1 (row 0 entry_row c.loop-i.i c.args.s.now) = omega arith in
+    let read = read (goal.at.returns-then-flag c).After-wide-place in
     let a = c.args in (
       sym (c.loop-i.invariant.3 ∙ fresh_met 0 entry_row a.n a.s.now c.loop-i.i (omega arith) a.most (flags c.loop-i.held) (rw (← read) (sym c.flag.ensures ∙ c.if-flag.true))),
       λ z. absurd (false≢true z),
@@ -42,7 +46,7 @@ returns-then-flag c =
 
 pub loop-i-preserved : goal.loop-i-preserved
 loop-i-preserved c =
-    let read : c.wide-place.result ≡ column 1 (row 0 entry_row c.loop-i.i c.args.s.now) = omega arith in
+    let read = read (goal.at.loop-i-preserved c).After-wide-place in
     let a = c.args in
     let r = c.raise in (
       search rules,

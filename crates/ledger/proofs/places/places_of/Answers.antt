@@ -15,7 +15,12 @@ use Rattle.ledger.specs.View.{entry_of}
 use Rattle.ledger.proofs.Placing.{held_none, held_marked, held_unmarked}
 use borrow.Author.Rules.{rules}
 use Rattle.ledger.proofs.places.places_of.Goals as goal
-use Rattle.ledger.proofs.places.places_of.Goals.{else-flag, then-flag}
+use Rattle.ledger.proofs.places.places_of.Goals.{In-loop-i, else-flag, then-flag}
+
+-- the place of the entry of a row is one that the table has
+placed : (c : In-loop-i) → place_of (entry_of (row 0 entry_row c.loop-i.i c.args.s.now)) < 272
+placed c =
+    every_row c.args.n c.args.s.now c.loop-i.i (omega arith) c.requires.2
 
 pub loop-i-init : goal.loop-i-init
 unfolding picked
@@ -23,15 +28,13 @@ loop-i-init c = (search rules, refl, flags_clear 34 ∙ held_none)
 
 pub raise-requires : goal.raise-requires
 raise-requires c =
-    let placed : place_of (entry_of (row 0 entry_row c.loop-i.i c.args.s.now)) < 272 = let b = c in
-    every_row b.args.n b.args.s.now c.loop-i.i (omega arith) b.requires.2 in
+    let placed = placed (goal.at.raise-requires c).In-loop-i in
     let e : c.wide-place.result ≡ place_of (entry_of (row 0 entry_row c.loop-i.i c.args.s.now)) = c.wide-place.ensures.0 ∙ c.number.ensures.0 ∙ place_column (row 0 entry_row c.loop-i.i c.args.s.now) in
     omega (arith, placed)
 
 pub loop-i-preserved : goal.loop-i-preserved
 loop-i-preserved c =
-    let placed : place_of (entry_of (row 0 entry_row c.loop-i.i c.args.s.now)) < 272 = let b = c in
-    every_row b.args.n b.args.s.now c.loop-i.i (omega arith) b.requires.2 in
+    let placed = placed (goal.at.loop-i-preserved c).In-loop-i in
     let a = c.args in
     let x = row 0 entry_row c.loop-i.i a.s.now in
     let f = c.flag in

@@ -12,6 +12,19 @@ use Rattle.recorder.proofs.Bringing.{use_in, ruled_within, ruled_used, chosen, u
 use Rattle.recorder.proofs.Masks.{seat_by}
 use borrow.Author.Rules.{rules}
 use Rattle.recorder.proofs.buffer.slot_for.Goals as goal
+use Rattle.recorder.proofs.buffer.slot_for.Goals.{After-slot_of, Start}
+
+whole : (c : Start) → Whole c.args.state.slots
+whole c = record { pages = search (rules, length_mapped); changed = search rules; order = search (rules, length_mapped) }
+
+-- any answer that is where the page is found
+answer : (c : Start) → (Whole c.args.state.slots) → (u : Use) → u ≡ use_in (lent c.args.state c.args.ledger.now [] [] [] []) c.args.page.0 → Chosen (lent c.args.state c.args.ledger.now [] [] [] []) c.args.page.0 u
+answer c whole = λ u e. subst (Chosen (lent c.args.state c.args.ledger.now [] [] [] []) c.args.page.0) (sym e) (chosen (lent c.args.state c.args.ledger.now [] [] [] []) c.requires.0 whole c.args.page.0 c.requires.1)
+
+-- the page's slot
+slot : (c : After-slot_of) → to_option c.slot_of.result ≡ slot_for (lent c.args.state c.args.ledger.now [] [] [] []) c.args.page.0
+unfolding slot_for
+slot c = rw c.wide.ensures.0 at c.slot_of.ensures
 
 pub slot_of-requires : goal.slot_of-requires
 slot_of-requires c = rw c.wide.ensures.0 (ruled_within (lent c.args.state c.args.ledger.now [] [] [] []) c.requires.0).slots_most
@@ -23,17 +36,17 @@ seat-seat-requires c =
 pub returns-in-At : goal.returns-in-At
 unfolding slot_for
 returns-in-At c =
-    let whole : Whole c.args.state.slots = record { pages = search (rules, length_mapped); changed = search rules; order = search (rules, length_mapped) } in
-    let answer : (u : Use) → u ≡ use_in (lent c.args.state c.args.ledger.now [] [] [] []) c.args.page.0 → Chosen (lent c.args.state c.args.ledger.now [] [] [] []) c.args.page.0 u = λ u e. subst (Chosen (lent c.args.state c.args.ledger.now [] [] [] []) c.args.page.0) (sym e) (chosen (lent c.args.state c.args.ledger.now [] [] [] []) c.requires.0 whole c.args.page.0 c.requires.1) in
-    let slot : to_option c.slot_of.result ≡ slot_for (lent c.args.state c.args.ledger.now [] [] [] []) c.args.page.0 = rw c.wide.ensures.0 at c.slot_of.ensures in
+    let whole = whole (goal.at.returns-in-At c).Start in
+    let answer = answer (goal.at.returns-in-At c).Start whole in
+    let slot = slot (goal.at.returns-in-At c).After-slot_of in
     answer _ (use_hit (lent c.args.state c.args.ledger.now [] [] [] []) c.args.page.0 c.in-At.i (sym slot ∙ ap to_option c.in-At.is))
 
 pub returns-in-Nothing : goal.returns-in-Nothing
 unfolding slot_for
 returns-in-Nothing c =
-    let whole : Whole c.args.state.slots = record { pages = search (rules, length_mapped); changed = search rules; order = search (rules, length_mapped) } in
-    let answer : (u : Use) → u ≡ use_in (lent c.args.state c.args.ledger.now [] [] [] []) c.args.page.0 → Chosen (lent c.args.state c.args.ledger.now [] [] [] []) c.args.page.0 u = λ u e. subst (Chosen (lent c.args.state c.args.ledger.now [] [] [] []) c.args.page.0) (sym e) (chosen (lent c.args.state c.args.ledger.now [] [] [] []) c.requires.0 whole c.args.page.0 c.requires.1) in
-    let slot : to_option c.slot_of.result ≡ slot_for (lent c.args.state c.args.ledger.now [] [] [] []) c.args.page.0 = rw c.wide.ensures.0 at c.slot_of.ensures in
+    let whole = whole (goal.at.returns-in-Nothing c).Start in
+    let answer = answer (goal.at.returns-in-Nothing c).Start whole in
+    let slot = slot (goal.at.returns-in-Nothing c).After-slot_of in
     answer _
     (ap (taking (lent c.args.state c.args.ledger.now [] [] [] []) c.args.page.0)
     (c.seat-seat.ensures c.args.page.0

@@ -1,9 +1,8 @@
 use native.Mathlib.Omega.{arith}
 use borrow.Author.Tests.{not-true, not-false}
 use Rattle.recorder.specs.Outcome.{lent}
-use Rattle.recorder.specs.inner.Using.{Chosen}
 use Rattle.recorder.specs.World.{World}
-use Rattle.recorder.proofs.Accepted.{Slotted, slotted, Growth, growth, growth_end, growth_asks, growth_kinds, growth_base}
+use Rattle.recorder.proofs.Accepted.{slotted, Growth, growth, growth_end, growth_asks, growth_kinds, growth_base}
 use Rattle.recorder.proofs.Bringing.{chosen_alone, chosen_takes}
 use Rattle.recorder.proofs.Replied.{grow_refused, grow_raw, grow_nowhere, grow_seated_lem}
 use Rattle.recorder.proofs.calls.grow.Goals as goal

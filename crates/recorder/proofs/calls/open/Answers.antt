@@ -1,6 +1,6 @@
 use native.Mathlib.Omega.{arith}
 use Rattle.recorder.specs.Outcome.{lent}
-use Rattle.recorder.specs.World.{World, zero_state}
+use Rattle.recorder.specs.World.{zero_state}
 use Rattle.recorder.proofs.Accepted.{Opening, opening}
 use Rattle.recorder.proofs.Replied.{open_refused, open_done}
 use Rattle.recorder.proofs.calls.open.Goals as goal

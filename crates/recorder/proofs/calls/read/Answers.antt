@@ -1,9 +1,8 @@
 use lib.ListN.{length}
 use borrow.Author.Tests.{not-true, not-false}
 use Rattle.recorder.specs.Outcome.{lent}
-use Rattle.recorder.specs.inner.Using.{Chosen}
 use Rattle.recorder.specs.World.{World}
-use Rattle.recorder.proofs.Accepted.{Slotted, slotted, Access, access, access_asks, access_kinds, access_page, access_base, access_buffer}
+use Rattle.recorder.proofs.Accepted.{slotted, Access, access, access_asks, access_kinds, access_page, access_base, access_buffer}
 use Rattle.recorder.proofs.Bringing.{chosen_alone}
 use Rattle.recorder.proofs.Replied.{read_refused, read_raw, read_nowhere, read_found_lem}
 use Rattle.recorder.proofs.calls.read.Goals as goal

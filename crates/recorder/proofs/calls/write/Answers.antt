@@ -2,9 +2,9 @@ use mathlib.Core.Path.{◌∙◌, ap}
 use lib.ListN.{length}
 use borrow.Author.Tests.{not-true, not-false}
 use Rattle.recorder.specs.Outcome.{lent}
-use Rattle.recorder.specs.inner.Using.{Chosen, changed_state}
+use Rattle.recorder.specs.inner.Using.{changed_state}
 use Rattle.recorder.specs.World.{World}
-use Rattle.recorder.proofs.Accepted.{Slotted, slotted, Access, access, access_asks, access_kinds, access_page, access_base, access_buffer}
+use Rattle.recorder.proofs.Accepted.{slotted, Access, access, access_asks, access_kinds, access_page, access_base, access_buffer}
 use Rattle.recorder.proofs.Bringing.{chosen_alone}
 use Rattle.recorder.proofs.Replied.{write_refused, write_raw, write_nowhere, write_found_lem}
 use Rattle.recorder.proofs.calls.write.Goals as goal

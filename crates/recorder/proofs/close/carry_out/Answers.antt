@@ -1,16 +1,11 @@
-use Prim.Native.Nat.{ℕ}
-use mathlib.Core.Path.{refl, ◌∙◌, sym, ap, subst}
+use mathlib.Core.Path.{refl, sym, subst}
 use native.Mathlib.Omega.{arith}
 use borrow.Author.Rules.{rules}
-use lib.ListN.{length}
 use Rattle.octets.specs.laws.Flagging.{length_flags}
 use Rattle.octets.specs.inner.Flags.{flags}
 use Rattle.octets.specs.Number.{Octets}
-use Rattle.octets.specs.Part.{lay}
 use Rattle.slots.specs.inner.Numbers.{pages_of}
-use Rattle.ledger.specs.inner.Flagged.{others}
-use Rattle.ledger.specs.inner.Renewed.{Settles, settled}
-use Rattle.ledger.specs.View.{entries_in}
+use Rattle.ledger.specs.inner.Renewed.{Settles}
 use Rattle.recorder.specs.inner.Carried.{Carries}
 use Rattle.recorder.specs.inner.Handed.{handed, filed}
 use Rattle.recorder.specs.inner.Planned.{Lists}

@@ -3,8 +3,8 @@ use mathlib.Core.List.{[]}
 use mathlib.Core.Path.{◌≡◌, refl, ◌∙◌, ap}
 use native.Mathlib.Omega.{arith}
 use Rattle.units.specs.Tests.{passes}
-use Rattle.recorder.specs.inner.Carried.{Closes, Ended}
-use Rattle.recorder.specs.Close.{open_tick, suffices}
+use Rattle.recorder.specs.inner.Carried.{Closes}
+use Rattle.recorder.specs.Close.{open_tick}
 use Rattle.recorder.specs.Outcome.{lent, answered}
 use Rattle.recorder.specs.World.{World}
 use Rattle.recorder.specs.declared.Answer.{Answer}

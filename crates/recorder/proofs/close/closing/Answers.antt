@@ -7,7 +7,6 @@ use borrow.Author.Tests.{not-true, not-false}
 use Rattle.octets.specs.laws.Flagging.{flags_clear}
 use Rattle.units.specs.declared.Page.{Page}
 use Rattle.units.specs.declared.Tick.{Tick}
-use Rattle.slots.specs.inner.Numbers.{pages_of}
 use Rattle.recorder.specs.inner.Carried.{Closes, Carries, Carried}
 use Rattle.recorder.specs.Close.{suffices}
 use Rattle.recorder.specs.inner.Handed.{handed, flagged, filed}

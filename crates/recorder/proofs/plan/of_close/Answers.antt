@@ -3,14 +3,13 @@ use mathlib.Core.Path.{◌≡◌}
 use mathlib.Core.Bool.{Bool, ◌&&◌}
 use native.Mathlib.Omega.{arith}
 use lib.Dec.{eqb, leb}
-use lib.ListN.{length}
 use Rattle.octets.specs.inner.Flags.{flags}
 use Rattle.units.specs.Sizes.{entries}
 use Rattle.slots.specs.inner.Numbers.{pages_of}
 use Rattle.recorder.specs.inner.Handed.{handed, flagged}
 use Rattle.recorder.specs.inner.Planned.{Lists, PlansTo}
 use Rattle.recorder.specs.World.{World}
-use Rattle.recorder.proofs.Planning.{Asked, asked, going_whole, going_bytes, enough_rows, enough_not, plans}
+use Rattle.recorder.proofs.Planning.{asked, going_whole, going_bytes, enough_rows, enough_not, plans}
 use Rattle.recorder.proofs.plan.of_close.Goals as goal
 use Rattle.recorder.proofs.plan.of_close.Goals.{After-staying}
 

@@ -9,23 +9,25 @@ use Rattle.ledger.specs.inner.Renewed.{is_due_now}
 use Rattle.ledger.specs.declared.Entry.{Entry}
 use Rattle.recorder.proofs.Copying.{Row, copied_in, page_in, page_most, due_laid_lem, due_skip, due_end}
 use Rattle.recorder.proofs.stores.write_due.Goals as goal
-use Rattle.recorder.proofs.stores.write_due.Goals.{else-is_due, then-is_due}
+use Rattle.recorder.proofs.stores.write_due.Goals.{After-entry_at-e, else-is_due, then-is_due}
+
+-- the page of an entry lies in the base
+low : (c : After-entry_at-e) → c.entry_at-e.result.page.0 < c.args.settings.capacity
+low c =
+    subst (λ (e : Entry). page_of e < c.args.settings.capacity) (sym c.entry_at-e.ensures)
+    (every_row c.args.n c.args.ledger.now c.loop-i.i c.loop-i-test.true c.requires.4)
 
 pub loop-i-init : goal.loop-i-init
 loop-i-init c = (search rules, search rules, c.wide-size.ensures.0, refl, refl)
 
 pub overflow_mul-wide : goal.overflow_mul-wide
 overflow_mul-wide c =
-    let low : c.entry_at-e.result.page.0 < c.args.settings.capacity = let s = c in
-    subst (λ (e : Entry). page_of e < s.args.settings.capacity) (sym c.entry_at-e.ensures)
-    (every_row s.args.n s.args.ledger.now c.loop-i.i c.loop-i-test.true s.requires.4) in
+    let low = low (goal.at.overflow_mul-wide c).After-entry_at-e in
     omega (arith, page_most c.args.settings c.requires.0 _ _ _ c.wide.ensures.0 c.loop-i.invariant.2 low)
 
 pub copy-requires : goal.copy-requires
 copy-requires c =
-    let low : c.entry_at-e.result.page.0 < c.args.settings.capacity = let s = c in
-    subst (λ (e : Entry). page_of e < s.args.settings.capacity) (sym c.entry_at-e.ensures)
-    (every_row s.args.n s.args.ledger.now c.loop-i.i c.loop-i-test.true s.requires.4) in
+    let low = low (goal.at.copy-requires c).After-entry_at-e in
     let l = c.loop-i in
     let a = c.args in
     let f = c.stretch_of-from in (
@@ -35,11 +37,10 @@ copy-requires c =
 
 pub loop-i-preserved : goal.loop-i-preserved
 loop-i-preserved c =
-    let judged : Row c.args.settings c.args.tick c.args.n c.args.ledger.now c.loop-i.i c.entry_at-e.result c.is_due.result = let e = c in
-    record {
-      below = e.loop-i-test.true;
-      read = e.entry_at-e.ensures;
-      judged = c.is_due.ensures ∙ ap (λ (k : ℕ). is_due_now k e.args.tick e.entry_at-e.result) e.wait-wait.ensures;
+    let judged : Row c.args.settings c.args.tick c.args.n c.args.ledger.now c.loop-i.i c.entry_at-e.result c.is_due.result = record {
+      below = c.loop-i-test.true;
+      read = c.entry_at-e.ensures;
+      judged = c.is_due.ensures ∙ ap (λ (k : ℕ). is_due_now k c.args.tick c.entry_at-e.result) c.wait-wait.ensures;
     } in
     let l = c.loop-i in
     let a = c.args in

@@ -8,10 +8,14 @@ use Rattle.recorder.specs.inner.Handed.{shown}
 use Rattle.recorder.specs.World.{World}
 use Rattle.recorder.proofs.Copying.{copied_in, copied_most, copied_sum, place_in, place_get, images_none, image_laid, sums_none, sums_next}
 use Rattle.recorder.proofs.stores.write_images.Goals as goal
+use Rattle.recorder.proofs.stores.write_images.Goals.{Start}
+
+abbrev world : (c : Start) → World
+world c = shown c.args.settings (pages_of c.args.seats.now) c.args.buffer.now
 
 pub loop-j-init : goal.loop-j-init
 loop-j-init c =
-    let world : World = shown c.args.settings (pages_of c.args.seats.now) c.args.buffer.now in (
+    let world = world (goal.at.loop-j-init c).Start in (
       search rules,
       search rules,
       search rules,
@@ -42,7 +46,7 @@ copy-requires c =
 
 pub loop-j-preserved : goal.loop-j-preserved
 loop-j-preserved c =
-    let world : World = shown c.args.settings (pages_of c.args.seats.now) c.args.buffer.now in
+    let world = world (goal.at.loop-j-preserved c).Start in
     let f = c.stretch_of-from in
     let l = c.loop-j in
     let a = c.args in

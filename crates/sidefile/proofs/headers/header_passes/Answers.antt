@@ -15,6 +15,13 @@ use Rattle.sidefile.specs.inner.Passed.{asks}
 use borrow.Author.Rules.{rules}
 use Rattle.sidefile.proofs.Answers.{yes, no}
 use Rattle.sidefile.proofs.headers.header_passes.Goals as goal
+use Rattle.sidefile.proofs.headers.header_passes.Goals.{After-header_of-header, Else-not-within_limits}
+
+says : (c : After-header_of-header) → (t : Header → Bool) → t (header_of c.args.s.now) ≡ t c.header_of-header.result
+says c = λ t. ap t (sym c.header_of-header.ensures)
+
+limited : (c : Else-not-within_limits) → limits c.header_of-header.result.settings ≡ true
+limited c = yes c.within_limits.ensures c.if-not-within_limits.false
 
 pub slice_bounds-checksum-end : goal.slice_bounds-checksum-end
 slice_bounds-checksum-end c = sym (length-take-le 32 c.args.s.now (search rules))
@@ -28,7 +35,7 @@ returns-then-checksum-load32 c =
 pub returns-then-not-within_limits : goal.returns-then-not-within_limits
 unfolding header_tests
 returns-then-not-within_limits c =
-    let says : (t : Header → Bool) → t (header_of c.args.s.now) ≡ t c.header_of-header.result = λ t. ap t (sym c.header_of-header.ensures) in
+    let says = says (goal.at.returns-then-not-within_limits c).After-header_of-header in
     sym (fails_at 1 _
     (says (λ h. limits h.settings) ∙ no c.within_limits.ensures c.if-not-within_limits.true))
 
@@ -37,39 +44,33 @@ unfolding header_tests
 returns-then-load16-ne0 c = sym (fails_at 2 _ (ne_eqb _ _ (λ z. c.if-load16-ne0.true (c.load16.ensures.0 ∙ z))))
 
 pub long_enough-requires : goal.long_enough-requires
-long_enough-requires c =
-    let limited : limits c.header_of-header.result.settings ≡ true = yes c.within_limits.ensures c.if-not-within_limits.false in
-    limited
+long_enough-requires c = limited (goal.at.long_enough-requires c).Else-not-within_limits
 
 pub returns-then-not-long_enough : goal.returns-then-not-long_enough
 unfolding header_tests
 returns-then-not-long_enough c =
-    let says : (t : Header → Bool) → t (header_of c.args.s.now) ≡ t c.header_of-header.result = λ t. ap t (sym c.header_of-header.ensures) in
-    let h = c in
-    let a = h.args in
+    let says = says (goal.at.returns-then-not-long_enough c).After-header_of-header in
+    let a = c.args in
     sym (fails_at 3 _
     (says (λ h. asks a.whole a.n h.settings) ∙ no c.long_enough.ensures c.if-not-long_enough.true))
 
 pub returns-then-header-gt-MOST_CAPACITY : goal.returns-then-header-gt-MOST_CAPACITY
 unfolding header_tests
 returns-then-header-gt-MOST_CAPACITY c =
-    let says : (t : Header → Bool) → t (header_of c.args.s.now) ≡ t c.header_of-header.result = λ t. ap t (sym c.header_of-header.ensures) in
+    let says = says (goal.at.returns-then-header-gt-MOST_CAPACITY c).After-header_of-header in
     sym (fails_at 4 _ (says (λ h. leb h.end 65535) ∙ lt-leb _ _ c.if-header-gt-MOST_CAPACITY.true))
 
 pub entries-requires : goal.entries-requires
-entries-requires c =
-    let limited : limits c.header_of-header.result.settings ≡ true = yes c.within_limits.ensures c.if-not-within_limits.false in
-    limited
+entries-requires c = limited (goal.at.entries-requires c).Else-not-within_limits
 
 pub returns : goal.returns
 unfolding header_tests checksum
 returns c =
-    let says : (t : Header → Bool) → t (header_of c.args.s.now) ≡ t c.header_of-header.result = λ t. ap t (sym c.header_of-header.ensures) in
+    let says = says (goal.at.returns c).After-header_of-header in
     let summed : eqb (checksum (take 32 c.args.s.now)) (le32 c.args.s.now 32) ≡ true = eq-eqb _ _ (sym c.checksum.ensures ∙ c.if-checksum-load32.false ∙ c.load32.ensures.0) in
-    let limited : limits c.header_of-header.result.settings ≡ true = yes c.within_limits.ensures c.if-not-within_limits.false in
+    let limited = limited (goal.at.returns c).Else-not-within_limits in
     let zeroed : eqb (le16 c.args.s.now 26) 0 ≡ true = eq-eqb _ _ (sym c.load16.ensures.0 ∙ c.if-load16-ne0.false) in
-    let h = c in
-    let a = h.args in
+    let a = c.args in
     rw (c.wide.ensures.0, c.entries.ensures.0)
     (sym (says (λ h. leb h.entries (entries h.settings)))
     ∙ sym (passes_last 5 _ _ refl

@@ -13,6 +13,13 @@ use Rattle.sidefile.specs.inner.Table.{entries_at, pages_fit, places_fit, change
 use Rattle.sidefile.proofs.Answers.{yes, no}
 use Rattle.sidefile.proofs.Index.{Reads, reads, grouped, regrouped}
 use Rattle.sidefile.proofs.judge.index_passes.Goals as goal
+use Rattle.sidefile.proofs.judge.index_passes.Goals.{After-wide-n}
+
+has : (c : After-wide-n) → Reads c.header_of-header.result c.args.s.now
+has c = reads c.header_of-header.result c.args.s.now c.header_of-header.ensures c.requires
+
+few : (c : After-wide-n) → (Reads c.header_of-header.result c.args.s.now) → c.wide-n.result ≤ entries c.header_of-header.result.settings
+few c has = omega (arith, has.few, c.wide-n.ensures.0)
 
 pub header_of-header-requires : goal.header_of-header-requires
 unfolding index_end
@@ -20,8 +27,8 @@ header_of-header-requires c = omega (arith, c.requires.reached)
 
 pub ascending_below-requires : goal.ascending_below-requires
 ascending_below-requires c =
-    let has : Reads c.header_of-header.result c.args.s.now = reads c.header_of-header.result c.args.s.now c.header_of-header.ensures c.requires in
-    let few : c.wide-n.result ≤ entries c.header_of-header.result.settings = omega (arith, has.few, c.wide-n.ensures.0) in
+    let has = has (goal.at.ascending_below-requires c).After-wide-n in
+    let few = few (goal.at.ascending_below-requires c).After-wide-n has in
     omega (arith, few, has.reached)
 
 pub returns-then-not-ascending_below : goal.returns-then-not-ascending_below
@@ -31,13 +38,13 @@ returns-then-not-ascending_below c =
 
 pub places-requires : goal.places-requires
 places-requires c =
-    let has : Reads c.header_of-header.result c.args.s.now = reads c.header_of-header.result c.args.s.now c.header_of-header.ensures c.requires in
+    let has = has (goal.at.places-requires c).After-wide-n in
     has.limited
 
 pub places_apart-requires : goal.places_apart-requires
 places_apart-requires c =
-    let has : Reads c.header_of-header.result c.args.s.now = reads c.header_of-header.result c.args.s.now c.header_of-header.ensures c.requires in
-    let few : c.wide-n.result ≤ entries c.header_of-header.result.settings = omega (arith, has.few, c.wide-n.ensures.0) in
+    let has = has (goal.at.places_apart-requires c).After-wide-n in
+    let few = few (goal.at.places_apart-requires c).After-wide-n has in
     omega (arith, few, has.reached)
 
 pub returns-then-not-places_apart : goal.returns-then-not-places_apart
@@ -48,8 +55,8 @@ returns-then-not-places_apart c =
 
 pub changes_by-requires : goal.changes_by-requires
 changes_by-requires c =
-    let has : Reads c.header_of-header.result c.args.s.now = reads c.header_of-header.result c.args.s.now c.header_of-header.ensures c.requires in
-    let few : c.wide-n.result ≤ entries c.header_of-header.result.settings = omega (arith, has.few, c.wide-n.ensures.0) in
+    let has = has (goal.at.changes_by-requires c).After-wide-n in
+    let few = few (goal.at.changes_by-requires c).After-wide-n has in
     omega (arith, few, has.reached)
 
 pub returns-then-not-changes_by : goal.returns-then-not-changes_by
@@ -60,19 +67,19 @@ returns-then-not-changes_by c =
 
 pub entries-requires : goal.entries-requires
 entries-requires c =
-    let has : Reads c.header_of-header.result c.args.s.now = reads c.header_of-header.result c.args.s.now c.header_of-header.ensures c.requires in
+    let has = has (goal.at.entries-requires c).After-wide-n in
     has.limited
 
 pub overflow_sub-entries : goal.overflow_sub-entries
 overflow_sub-entries c =
-    let has : Reads c.header_of-header.result c.args.s.now = reads c.header_of-header.result c.args.s.now c.header_of-header.ensures c.requires in
-    let few : c.wide-n.result ≤ entries c.header_of-header.result.settings = omega (arith, has.few, c.wide-n.ensures.0) in
+    let has = has (goal.at.overflow_sub-entries c).After-wide-n in
+    let few = few (goal.at.overflow_sub-entries c).After-wide-n has in
     omega (arith, few, c.entries.ensures.0)
 
 pub zeros-requires : goal.zeros-requires
 zeros-requires c =
-    let has : Reads c.header_of-header.result c.args.s.now = reads c.header_of-header.result c.args.s.now c.header_of-header.ensures c.requires in
-    let few : c.wide-n.result ≤ entries c.header_of-header.result.settings = omega (arith, has.few, c.wide-n.ensures.0) in
+    let has = has (goal.at.zeros-requires c).After-wide-n in
+    let few = few (goal.at.zeros-requires c).After-wide-n has in
     omega (arith, few, has.reached, c.entries.ensures.0)
 
 pub returns-then-not-zeros : goal.returns-then-not-zeros
@@ -83,13 +90,13 @@ returns-then-not-zeros c =
 
 pub slice_bounds-checksum-end : goal.slice_bounds-checksum-end
 slice_bounds-checksum-end c =
-    let has : Reads c.header_of-header.result c.args.s.now = reads c.header_of-header.result c.args.s.now c.header_of-header.ensures c.requires in
-    let few : c.wide-n.result ≤ entries c.header_of-header.result.settings = omega (arith, has.few, c.wide-n.ensures.0) in
+    let has = has (goal.at.slice_bounds-checksum-end c).After-wide-n in
+    let few = few (goal.at.slice_bounds-checksum-end c).After-wide-n has in
     omega (arith, few, has.reached)
 
 pub load32-requires : goal.load32-requires
 load32-requires c =
-    let has : Reads c.header_of-header.result c.args.s.now = reads c.header_of-header.result c.args.s.now c.header_of-header.ensures c.requires in
+    let has = has (goal.at.load32-requires c).After-wide-n in
     omega (arith, has.reached)
 
 pub returns : goal.returns

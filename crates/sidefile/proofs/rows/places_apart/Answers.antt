@@ -10,6 +10,10 @@ use Rattle.octets.specs.laws.Rows.{row_in}
 use Rattle.sidefile.specs.inner.Table.{column, entries_at}
 use Rattle.sidefile.proofs.Scans.{fresh, none_met, fresh_first, fresh_far, fresh_met, fresh_next, fresh_end}
 use Rattle.sidefile.proofs.rows.places_apart.Goals as goal
+use Rattle.sidefile.proofs.rows.places_apart.Goals.{After-wide-place}
+
+read : (c : After-wide-place) → c.wide-place.result ≡ column 1 (row c.args.at c.args.w c.loop-i.i c.args.s.now)
+read c = omega arith
 
 pub loop-i-init : goal.loop-i-init
 unfolding none_met
@@ -30,7 +34,7 @@ returns-then-most-place c =
 
 pub returns-then-flag : goal.returns-then-flag
 returns-then-flag c =
-    let read : c.wide-place.result ≡ column 1 (row c.args.at c.args.w c.loop-i.i c.args.s.now) = omega arith in
+    let read = read (goal.at.returns-then-flag c).After-wide-place in
     let a = c.args in
     sym (c.loop-i.invariant.2
     ∙ fresh_met a.at a.w a.n a.s.now c.loop-i.i (omega arith) a.most (flags c.loop-i.met)
@@ -38,7 +42,7 @@ returns-then-flag c =
 
 pub loop-i-preserved : goal.loop-i-preserved
 loop-i-preserved c =
-    let read : c.wide-place.result ≡ column 1 (row c.args.at c.args.w c.loop-i.i c.args.s.now) = omega arith in
+    let read = read (goal.at.loop-i-preserved c).After-wide-place in
     let a = c.args in (
       search rules,
       search rules,

@@ -6,6 +6,10 @@ use lib.ListN.{length}
 use Rattle.lists.specs.laws.Maps.{length_mapped}
 use Rattle.slots.proofs.Turns.{slot_start, slot_here, slot_next, slot_end, victim_start, victim_end, victim_absent, victim_spared, victim_here}
 use Rattle.slots.proofs.Slots.victim.Goals as goal
+use Rattle.slots.proofs.Slots.victim.Goals.{At-search}
+
+long : (c : At-search) → c.args.self.used ≤ length c.args.self.order
+long c = let e : length c.args.self.order ≡ 16 = search (rules, length_mapped) in omega arith
 
 pub search-init : goal.search-init
 search-init c = (search rules, victim_start c.args.slots c.args.mask c.args.self)
@@ -15,7 +19,7 @@ loop-i-init c = (search rules, slot_start _ _ _)
 
 pub search-preserved : goal.search-preserved
 search-preserved c =
-    let long : c.args.self.used ≤ length c.args.self.order = let e : length c.args.self.order ≡ 16 = search (rules, length_mapped) in omega arith in
+    let long = long (goal.at.search-preserved c).At-search in
     let a = c.args in (
       search rules,
       c.search.invariant.1
@@ -25,7 +29,7 @@ search-preserved c =
 
 pub search-preserved-then-mask-i : goal.search-preserved-then-mask-i
 search-preserved-then-mask-i c =
-    let long : c.args.self.used ≤ length c.args.self.order = let e : length c.args.self.order ≡ 16 = search (rules, length_mapped) in omega arith in
+    let long = long (goal.at.search-preserved-then-mask-i c).At-search in
     let a = c.args in (
       search rules,
       c.search.invariant.1
@@ -41,13 +45,13 @@ loop-i-preserved c =
 
 pub returns-then-used-k : goal.returns-then-used-k
 returns-then-used-k c =
-    let long : c.args.self.used ≤ length c.args.self.order = let e : length c.args.self.order ≡ 16 = search (rules, length_mapped) in omega arith in
+    let long = long (goal.at.returns-then-used-k c).At-search in
     let a = c.args in
     sym (c.search.invariant.1 ∙ victim_end a.slots a.mask a.self c.search.k long (omega arith))
 
 pub returns-else-mask-i : goal.returns-else-mask-i
 returns-else-mask-i c =
-    let long : c.args.self.used ≤ length c.args.self.order = let e : length c.args.self.order ≡ 16 = search (rules, length_mapped) in omega arith in
+    let long = long (goal.at.returns-else-mask-i c).At-search in
     let a = c.args in
     sym
     (c.search.invariant.1

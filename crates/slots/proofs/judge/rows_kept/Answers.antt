@@ -11,24 +11,28 @@ use Rattle.slots.specs.inner.Judged.{row_kept}
 use Rattle.slots.specs.Table.{slots_of}
 use Rattle.slots.proofs.Turns.{row_empty, row_marked, row_past, row_counted}
 use Rattle.slots.proofs.judge.rows_kept.Goals as goal
-use Rattle.slots.proofs.judge.rows_kept.Goals.{else-held+else-slots-i+else-times-ne1, then-held+else-changed-i-ne0}
+use Rattle.slots.proofs.judge.rows_kept.Goals.{At-loop-i, else-held+else-slots-i+else-times-ne1, then-held+else-changed-i-ne0}
+
+-- a row that fails
+failed : (c : At-loop-i) → c.loop-i.i < 16 → row_kept c.args.slots (let a = c.args in slots_of a.pages a.changed a.order a.used) c.loop-i.i ≡ false → false ≡ all_of (row_kept c.args.slots (let a = c.args in slots_of a.pages a.changed a.order a.used)) (below 16)
+failed c = λ h e. sym (c.loop-i.invariant.1 ∙ all_stop (row_kept c.args.slots (let a = c.args in slots_of a.pages a.changed a.order a.used)) 16 c.loop-i.i h e)
 
 pub loop-i-init : goal.loop-i-init
 loop-i-init c = (search rules, all_start _ _)
 
 pub returns-then-changed-i-ne0 : goal.returns-then-changed-i-ne0
 returns-then-changed-i-ne0 c =
-    let failed : c.loop-i.i < 16 → row_kept c.args.slots (let a = c.args in slots_of a.pages a.changed a.order a.used) c.loop-i.i ≡ false → false ≡ all_of (row_kept c.args.slots (let a = c.args in slots_of a.pages a.changed a.order a.used)) (below 16) = λ h e. sym (c.loop-i.invariant.1 ∙ all_stop (row_kept c.args.slots (let a = c.args in slots_of a.pages a.changed a.order a.used)) 16 c.loop-i.i h e) in
+    let failed = failed (goal.at.returns-then-changed-i-ne0 c).At-loop-i in
     failed (omega arith) (row_marked c.args.slots (let a = c.args in slots_of a.pages a.changed a.order a.used) c.loop-i.i c.if-held.true c.if-changed-i-ne0.true)
 
 pub returns-then-slots-i : goal.returns-then-slots-i
 returns-then-slots-i c =
-    let failed : c.loop-i.i < 16 → row_kept c.args.slots (let a = c.args in slots_of a.pages a.changed a.order a.used) c.loop-i.i ≡ false → false ≡ all_of (row_kept c.args.slots (let a = c.args in slots_of a.pages a.changed a.order a.used)) (below 16) = λ h e. sym (c.loop-i.invariant.1 ∙ all_stop (row_kept c.args.slots (let a = c.args in slots_of a.pages a.changed a.order a.used)) 16 c.loop-i.i h e) in
+    let failed = failed (goal.at.returns-then-slots-i c).At-loop-i in
     failed (omega arith) (row_past c.args.slots (let a = c.args in slots_of a.pages a.changed a.order a.used) c.loop-i.i c.if-held.false c.if-slots-i.true)
 
 pub returns-then-times-ne1 : goal.returns-then-times-ne1
 returns-then-times-ne1 c =
-    let failed : c.loop-i.i < 16 → row_kept c.args.slots (let a = c.args in slots_of a.pages a.changed a.order a.used) c.loop-i.i ≡ false → false ≡ all_of (row_kept c.args.slots (let a = c.args in slots_of a.pages a.changed a.order a.used)) (below 16) = λ h e. sym (c.loop-i.invariant.1 ∙ all_stop (row_kept c.args.slots (let a = c.args in slots_of a.pages a.changed a.order a.used)) 16 c.loop-i.i h e) in
+    let failed = failed (goal.at.returns-then-times-ne1 c).At-loop-i in
     failed (omega arith)
     (row_counted c.args.slots (let a = c.args in slots_of a.pages a.changed a.order a.used) c.loop-i.i c.if-held.false c.if-slots-i.false c.times.result c.times.ensures
     ∙ ne_eqb c.times.result 1 c.if-times-ne1.true)
