@@ -13,7 +13,7 @@ pub overflow_add-k : goal.overflow_add-k
 overflow_add-k c = rw (c.wide.ensures.0, c.wide-2.ensures.0) (search rules)
 
 pub copy-requires : goal.copy-requires
-copy-requires c = (search rules, rw (c.wide.ensures.0, c.wide-2.ensures.0) c.requires)
+copy-requires c = (search rules, rw (c.wide.ensures.0, c.wide-2.ensures.0) (omega arith))
 
 pub returns : goal.returns
 returns c =

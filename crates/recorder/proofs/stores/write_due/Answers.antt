@@ -31,8 +31,11 @@ copy-requires c =
     let l = c.loop-i in
     let a = c.args in
     let f = c.stretch_of-from in (
-      copied_in a.settings (pages_of a.seats.now) a.buffer.now _ f.result f.ensures c.requires.2,
-      page_in a.settings (pages_of a.seats.now) a.buffer.now _ f.result f.ensures l.base _ _ _ c.wide.ensures.0 l.invariant.2 (omega (arith, c.requires.3, l.invariant.3)) low,
+      omega (arith, copied_in a.settings (pages_of a.seats.now) a.buffer.now _ f.result f.ensures c.requires.2),
+      omega (
+        arith,
+        page_in a.settings (pages_of a.seats.now) a.buffer.now _ f.result f.ensures l.base _ _ _ c.wide.ensures.0 l.invariant.2 (omega (arith, c.requires.3, l.invariant.3)) low,
+      ),
     )
 
 pub loop-i-preserved : goal.loop-i-preserved
