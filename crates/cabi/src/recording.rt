@@ -7,7 +7,7 @@ ghost use Rattle.recorder.specs.Outcome.{lent, answered};
 ghost use Rattle.recorder.specs.World.{zero_state};
 
 use recorder::{Answer, State};
-use units::{Page, Settings, Tick};
+use units::{Page, Settings, Tick, refusal};
 
 #[unsafe(no_mangle)]
 pub extern "C" fn ungletice_recorder_open(
@@ -22,7 +22,20 @@ pub extern "C" fn ungletice_recorder_open(
 ) -> Answer
     ensures { answered result ledger.new base.now side.new buffer.now kinds.now [] ≡ Calls.open_reply settings end tick (lent zero_state ledger.old base.now side.old buffer.now kinds.now) }
 {
-    recorder::calls::open(settings, end, Tick(tick), ledger, base, side, buffer, kinds)
+    let opened = recorder::calls::open(
+        settings,
+        end,
+        Tick(tick),
+        ledger,
+        base,
+        side,
+        buffer,
+        kinds,
+    );
+    match opened {
+        Ok(state) => Answer::accepted(state),
+        Err(refusal) => Answer::refused(u32::from(refusal), State::zero()),
+    }
 }
 
 #[unsafe(no_mangle)]
@@ -39,8 +52,9 @@ pub extern "C" fn ungletice_recorder_read(
 ) -> Answer
     ensures { answered result ledger.now base.now side.now buffer.new kinds.now into.new ≡ Calls.read_reply page offset into.old (lent state ledger.now base.now side.now buffer.old kinds.now) }
 {
-    recorder::calls::read(
-        state,
+    let mut state = state;
+    let done = recorder::calls::read(
+        &mut state,
         ledger,
         base,
         side,
@@ -49,7 +63,11 @@ pub extern "C" fn ungletice_recorder_read(
         Page(page),
         offset,
         into,
-    )
+    );
+    Answer {
+        number: refusal::number(done),
+        state,
+    }
 }
 
 #[unsafe(no_mangle)]
@@ -66,8 +84,9 @@ pub extern "C" fn ungletice_recorder_write(
 ) -> Answer
     ensures { answered result ledger.now base.new side.now buffer.new kinds.now bytes.now ≡ Calls.write_reply page offset bytes.now (lent state ledger.now base.old side.now buffer.old kinds.now) }
 {
-    recorder::calls::write(
-        state,
+    let mut state = state;
+    let done = recorder::calls::write(
+        &mut state,
         ledger,
         base,
         side,
@@ -76,7 +95,11 @@ pub extern "C" fn ungletice_recorder_write(
         Page(page),
         offset,
         bytes,
-    )
+    );
+    Answer {
+        number: refusal::number(done),
+        state,
+    }
 }
 
 #[unsafe(no_mangle)]
@@ -91,7 +114,12 @@ pub extern "C" fn ungletice_recorder_grow(
 ) -> Answer
     ensures { answered result ledger.now base.new side.now buffer.new kinds.new [] ≡ Calls.grow_reply kind (lent state ledger.now base.old side.now buffer.old kinds.old) }
 {
-    recorder::calls::grow(state, ledger, base, side, buffer, kinds, kind)
+    let mut state = state;
+    let done = recorder::calls::grow(&mut state, ledger, base, side, buffer, kinds, kind);
+    Answer {
+        number: refusal::number(done),
+        state,
+    }
 }
 
 #[unsafe(no_mangle)]
@@ -105,5 +133,10 @@ pub extern "C" fn ungletice_recorder_close(
 ) -> Answer
     ensures { answered result ledger.new base.new side.new buffer.now kinds.now [] ≡ close_reply (lent state ledger.old base.old side.old buffer.now kinds.now) }
 {
-    recorder::close::close(state, ledger, base, side, buffer, kinds)
+    let mut state = state;
+    let done = recorder::close::close(&mut state, ledger, base, side, buffer, kinds);
+    Answer {
+        number: refusal::number(done),
+        state,
+    }
 }

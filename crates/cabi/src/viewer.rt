@@ -7,20 +7,20 @@ ghost use Rattle.desk.specs.Read.{desk_read};
 ghost use Rattle.desk.specs.Take.{take_reply, refresh_reply};
 
 use desk::Part;
-use units::Page;
+use units::{Page, refusal};
 
 #[unsafe(no_mangle)]
 pub extern "C" fn ungletice_take(side: &[u8], held: &mut [u8]) -> u32
     ensures { TakeDone (take_reply side.now held.old) result held.new }
 {
-    desk::take(side, held)
+    refusal::number(desk::take(side, held))
 }
 
 #[unsafe(no_mangle)]
 pub extern "C" fn ungletice_refresh(side: &[u8], held: &mut [u8], marks: &mut [u8]) -> u32
     ensures { RefreshDone (refresh_reply side.now held.old marks.old) result held.new marks.new }
 {
-    desk::refresh(side, held, marks)
+    refusal::number(desk::refresh(side, held, marks))
 }
 
 #[unsafe(no_mangle)]
@@ -34,7 +34,7 @@ pub extern "C" fn ungletice_read(
 ) -> u32
     ensures { result ≡ (desk_read held.now side.now base.now page offset length).number }
 {
-    desk::read_number(side, base, held, Page(page), offset, length)
+    refusal::number(desk::read_number(side, base, held, Page(page), offset, length))
 }
 
 // 0 the base, 1 the side file.
@@ -49,7 +49,7 @@ pub extern "C" fn ungletice_read_source(
 ) -> u32
     ensures { result ≡ (desk_read held.now side.now base.now page offset length).source }
 {
-    desk::read_source(side, base, held, Page(page), offset, length)
+    u32::from(desk::read_source(side, base, held, Page(page), offset, length))
 }
 
 #[unsafe(no_mangle)]

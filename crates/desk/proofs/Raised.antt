@@ -19,16 +19,18 @@ use Rattle.octets.specs.Part.{lay}
 use Rattle.octets.specs.laws.Part.{length_lay, lay_zero, get_d_lay_after}
 use Rattle.octets.specs.Rows.{row}
 use Rattle.units.specs.Sizes.{header_length, index_row}
+use Rattle.units.specs.Tests.{verdict}
 use Rattle.units.specs.declared.Tick.{Tick}
 use Rattle.sidefile.specs.Encode.{header_of, index_entry_of, index_of}
-use Rattle.sidefile.specs.Judge.{reaches}
-use Rattle.sidefile.specs.inner.Passed.{AllPassed}
-use Rattle.sidefile.specs.inner.Table.{column, entries_at, index_entries, entry_next, entries_end}
+use Rattle.sidefile.specs.Judge.{whole_tests}
+use Rattle.sidefile.specs.inner.Table.{entry_next, entries_end}
+use Rattle.sidefile.specs.inner.Tables.{IndexAt, entries_in}
+use Rattle.sidefile.specs.declared.table.Table.{Table}
 use Rattle.sidefile.specs.declared.Header.{Header}
 use Rattle.sidefile.specs.declared.IndexEntry.{IndexEntry}
 use Rattle.desk.specs.inner.Marks.{Markable}
 use Rattle.desk.specs.Take.{mark_of}
-use Rattle.desk.proofs.Followed.{rows_fit, whole_indexed}
+use Rattle.desk.proofs.Followed.{rows_fit, whole_passes, whole_indexed, index_seen}
 use Rattle.desk.proofs.Scans.{every_at}
 
 -- all marks that the entries of a list raise
@@ -142,64 +144,45 @@ module _ (t : Tick) (x : IndexEntry) (es : List IndexEntry) (ms : List ℕ) wher
   unfolding raised
   raise_none h = rw (le-ltb t.0 x.changed.0 h)
 
--- one turn over the rows of a table, and its end
-module _ (at w n : ℕ) (xs : List ℕ) (i : ℕ) where
-  abbrev entry : IndexEntry
-  entry = index_entry_of (row at w i xs)
+-- one turn over the entries of a table, and its end
+module _ (table : Table) (i : ℕ) (t : Tick) (ms : List ℕ) where
+  module _ (x : IndexEntry) (e : x ≡ index_entry_of (row table.at table.width i table.bytes.now)) (h : i < table.rows) where
+    turn : raised t (drop i (entries_in table)) ms ≡ raised t (x ∷ drop (i + 1) (entries_in table)) ms
+    turn = rw e (ap (λ (es : List IndexEntry). raised t es ms) (entry_next table.at table.width table.rows table.bytes.now i h))
 
-  abbrev left : List IndexEntry
-  left = drop i (entries_at at w n xs)
+    pub raise_late : t.0 < x.changed.0 → raised t (drop i (entries_in table)) ms ≡ raised t (drop (i + 1) (entries_in table)) (set ms x.page.0 1)
+    raise_late k = turn ∙ raise_one t x (drop (i + 1) (entries_in table)) ms k
 
-  abbrev next : List IndexEntry
-  next = drop (i + 1) (entries_at at w n xs)
+    pub raise_early : x.changed.0 ≤ t.0 → raised t (drop i (entries_in table)) ms ≡ raised t (drop (i + 1) (entries_in table)) ms
+    raise_early k = turn ∙ raise_none t x (drop (i + 1) (entries_in table)) ms k
 
-  pub page_in : {k : ℕ} → i < n → Every (λ x. x.page.0 < k) (entries_at at w n xs) → column 0 (row at w i xs) < k
-  unfolding index_entry_of column
-  page_in h e = every_at (entries_at at w n xs) i e (entry_next at w n xs i h)
+  pub raise_end : table.rows ≤ i → raised t (drop i (entries_in table)) ms ≡ ms
+  unfolding raised
+  raise_end h = rw (entries_end table.at table.width table.rows table.bytes.now i h)
 
-  module _ (t : Tick) (ms : List ℕ) where
-    turn : i < n → raised t left ms ≡ raised t (entry ∷ next) ms
-    turn h = ap (λ (es : List IndexEntry). raised t es ms) (entry_next at w n xs i h)
+-- the index of a side file, by the header that was read off it
+module _ (h : Header) (side marks : List ℕ) (m : Markable h side marks) where
+  pub mark_rows : header_length + h.entries * index_row ≤ length side
+  mark_rows = rows_fit side m.indexed h.entries (ap (λ (h : Header). h.entries) m.read)
 
-    pub raise_late : i < n → t.0 < column 2 (row at w i xs) → raised t left ms ≡ raised t next (set ms (column 0 (row at w i xs)) 1)
-    unfolding index_entry_of column
-    raise_late h k = turn h ∙ raise_one t entry next ms k
+  module _ (table : Table) (at : IndexAt side h.entries table) where
+    seen : index_of side ≡ entries_in table
+    seen = index_seen side h m.read table at
 
-    pub raise_early : i < n → column 2 (row at w i xs) ≤ t.0 → raised t left ms ≡ raised t next ms
-    unfolding index_entry_of column
-    raise_early h k = turn h ∙ raise_none t entry next ms k
+    pub mark_page : (i : ℕ) (x : IndexEntry) → x ≡ index_entry_of (row table.at table.width i table.bytes.now) → i < table.rows → x.page.0 < h.end
+    mark_page i x e l =
+        rw e
+        (every_at (entries_in table) i (subst (Every (λ x. x.page.0 < h.end)) seen m.pages) (entry_next table.at table.width table.rows table.bytes.now i l))
 
-    pub raise_end : n ≤ i → raised t left ms ≡ ms
-    unfolding raised
-    raise_end h = rw (entries_end at w n xs i h)
+    pub mark_made : (t : Tick) → raised t (entries_in table) (lay marks 0 (replicate h.end 0)) ≡ map (mark_of t (index_of side)) (below h.end) ++ drop h.end marks
+    mark_made t = rw (← seen) (raised_marks t (index_of side) h.end marks m.room m.pages)
 
--- the marks of a side file, by the header that was read off it
-module _ (h : Header) (side marks : List ℕ) (m : Markable h side marks) (n : ℕ) (c : n ≡ h.entries) where
-  counted : n ≡ (header_of side).entries
-  counted = c ∙ ap (λ (h : Header). h.entries) m.read
-
-  rows_of_lem : index_of side ≡ entries_at header_length index_row n side
-  rows_of_lem = index_entries side ∙ ap (λ (k : ℕ). entries_at header_length index_row k side) (sym counted)
-
-  pub mark_rows : header_length + n * index_row ≤ length side
-  mark_rows = rows_fit side m.indexed n counted
-
-  pub mark_pages : (k : ℕ) → length marks ≡ k → Every (λ x. x.page.0 < k) (entries_at header_length index_row n side)
-  mark_pages k e =
-      let room : h.end ≤ k = omega (arith, m.room) in
-      every_map (λ x p. omega arith) (entries_at header_length index_row n side) (subst (Every (λ x. x.page.0 < h.end)) rows_of_lem m.pages)
-
-  pub mark_made : (t : Tick) (e : ℕ) → e ≡ h.end
-      → raised t (entries_at header_length index_row n side) (lay marks 0 (replicate e 0))
-      ≡ map (mark_of t (index_of side)) (below h.end) ++ drop h.end marks
-  mark_made t e f = rw (← rows_of_lem, f) (raised_marks t (index_of side) h.end marks m.room m.pages)
-
-pub markable : (side marks : List ℕ) → AllPassed (reaches (length side)) side → (h : Header) → h ≡ header_of side → h.end ≤ length marks
-    → Markable h side marks
-markable side marks a h e room =
+pub markable : (side ms : List ℕ) → 0 ≡ verdict (whole_tests (length side) side) → (h : Header) → h ≡ header_of side → h.end ≤ length ms
+    → Markable h side ms
+markable side ms w h e room =
     record {
       read = e;
-      indexed = whole_indexed side a;
-      pages = subst (λ (h : Header). Every (λ x. x.page.0 < h.end) (index_of side)) (sym e) a.index.pages;
+      indexed = whole_indexed side w;
+      pages = subst (λ (h : Header). Every (λ x. x.page.0 < h.end) (index_of side)) (sym e) (whole_passes side w).index.pages;
       room = room;
     }

@@ -2,23 +2,27 @@
 use Prim.Native.Nat.{ℕ, ◌≤◌, ◌<◌}
 use mathlib.Core.Bool.{true}
 use mathlib.Core.List.{List, [], ◌∷◌, ◌++◌, map}
-use mathlib.Core.Path.{◌≡◌, ◌∙◌, sym, ap}
+use mathlib.Core.Path.{◌≡◌, refl, ◌∙◌, sym, ap}
 use lib.Dec.{leb}
 use lib.ListN.{length, drop}
 use borrow.Author.Tests.{le-leb, lt-leb}
 use Rattle.lists.specs.Below.{below}
+use Rattle.lists.specs.Scans.{all_of}
 use Rattle.octets.specs.Part.{part, lay}
 use Rattle.units.specs.Refusals as Refusals
+use Rattle.units.specs.Refusals.{code}
 use Rattle.units.specs.Sizes.{index_end}
-use Rattle.units.specs.Tests.{Test, passes, verdict, tested}
-use Rattle.units.specs.laws.Tests.{refused_before, refused_last, accepted_last}
+use Rattle.units.specs.Tests.{Test, numbered, verdict}
+use Rattle.units.specs.laws.Tests.{refused_by, tested_passes, verdict_none}
+use Rattle.units.specs.declared.refusal.Refusal.{Refusal}
+use Rattle.units.specs.declared.refusal.Refusal.TheVariants as Reason
 use Rattle.sidefile.specs.Encode.{header_of, index_of}
-use Rattle.sidefile.specs.Judge.{whole_tests}
+use Rattle.sidefile.specs.Judge.{mark_tests, header_tests, index_tests, whole_tests}
 use Rattle.sidefile.specs.declared.Header.{Header}
-use Rattle.desk.specs.inner.Follow.{follow_tests}
+use Rattle.desk.specs.inner.Follow.{kept_tests, pair_tests, follow_tests}
 use Rattle.desk.specs.Outcome.{TakeDone, RefreshDone}
-use Rattle.desk.specs.Take.{Taken, untaken, held_length, taken, take_tests, take_reply, mark_of, marks_after, refresh_reply}
-use Rattle.desk.proofs.Followed.{refresh_tests_lem}
+use Rattle.desk.specs.Take.{Taken, untaken, held_length, taken, take_tests, take_reply, mark_of, marks_after, refresh_tests, refresh_reply}
+use Rattle.desk.proofs.Followed.{code_some, stops, goes_on, kept_stops, side_stops, pair_stops, behind_pair}
 
 took : {reply : Taken} (t : Taken) → reply ≡ t → TakeDone reply t.number t.held
 took t e = record { answered = ap (λ (t : Taken). t.number) (sym e); holds = ap (λ (t : Taken). t.held) (sym e) }
@@ -31,59 +35,102 @@ refreshed t e =
       marked = ap (λ (t : Taken). t.marks) (sym e);
     }
 
+-- a test of room, as the last
+module _ (n m : ℕ) where
+  abbrev room : List Test
+  room = (Refusals.short, leb n m) ∷ []
+
+  narrow : m < n → Refusals.short ≡ verdict room
+  unfolding verdict
+  narrow h = rw (lt-leb n m h)
+
+  roomy : n ≤ m → 0 ≡ verdict room
+  unfolding verdict
+  roomy h = rw (le-leb n m h)
+
 module _ (side held : List ℕ) where
   abbrev whole : List Test
   whole = whole_tests (length side) side
 
-  abbrev takes : Taken
-  takes = record { number = 0; held = taken side held; marks = [] }
+  abbrev take : List Test
+  take = whole ++ room (held_length side) (length held)
 
-  pub take_refused : (n : ℕ) → n ≡ verdict whole → (n ≡ 0 → ⊥) → TakeDone (take_reply side held) n held
+  numbered_whole : all_of numbered whole ≡ true
+  unfolding whole_tests mark_tests header_tests index_tests all_of
+  numbered_whole = refl
+
+  numbered_take : all_of numbered take ≡ true
+  unfolding whole_tests mark_tests header_tests index_tests all_of
+  numbered_take = refl
+
+  take_stopped : (r : Refusal) → code r ≡ verdict take → TakeDone (take_reply side held) (code r) held
   unfolding take_reply take_tests
-  take_refused n e ne = took (untaken held [] n) (refused_before (untaken held []) takes whole _ n e ne)
+  take_stopped r e = took (untaken held [] (code r)) (refused_by (untaken held []) _ take (code r) e (code_some r))
 
-  pub take_short : passes whole ≡ true → length held < held_length side → TakeDone (take_reply side held) Refusals.short held
-  unfolding take_reply take_tests
-  take_short p h =
-      took (untaken held [] Refusals.short)
-      (refused_last (untaken held []) takes whole _ _ p (lt-leb (held_length side) (length held) h))
+  pub take_refused : (r : Refusal) → code r ≡ verdict whole → TakeDone (take_reply side held) (code r) held
+  take_refused r e = take_stopped r (stops whole (room (held_length side) (length held)) r e)
 
-  pub take_done : passes whole ≡ true → (n : ℕ) → n ≡ held_length side → n ≤ length held → TakeDone (take_reply side held) 0 (lay held 0 (part side 0 n))
-  unfolding take_reply take_tests taken
-  take_done p n e h =
-      rw e
-      (took takes (accepted_last (untaken held []) takes whole _ _ p (le-leb (held_length side) (length held) (rw e at h))))
+  module _ (w : 0 ≡ verdict whole) (n : ℕ) (e : n ≡ held_length side) where
+    pub take_short : length held < n → TakeDone (take_reply side held) Refusals.short held
+    take_short h = take_stopped Reason.Short (narrow (held_length side) (length held) (rw e at h) ∙ goes_on whole (room (held_length side) (length held)) numbered_whole w)
+
+    pub take_done : n ≤ length held → TakeDone (take_reply side held) 0 (lay held 0 (part side 0 n))
+    unfolding take_reply take_tests taken
+    take_done h =
+        let v = roomy (held_length side) (length held) (rw e at h) ∙ goes_on whole (room (held_length side) (length held)) numbered_whole w in
+        rw e
+        (took (record { number = 0; held = taken side held; marks = [] })
+        (tested_passes (untaken held []) _ take (verdict_none take numbered_take (sym v))))
 
 module _ (side held marks : List ℕ) where
-  abbrev follow : List Test
-  follow = follow_tests true held side
+  abbrev refresh : List Test
+  refresh = refresh_tests side held marks
 
-  abbrev refreshes : Taken
-  refreshes = record { number = 0; held = taken side held; marks = marks_after side held marks }
+  abbrev left : ℕ → Taken
+  left = untaken held marks
 
-  abbrev refusal : ℕ → Taken
-  refusal = untaken held marks
+  abbrev last : List Test
+  last = room (header_of side).end (length marks)
 
-  by_tests : refresh_reply side held marks
-      ≡ tested (follow ++ ((Refusals.short, leb (header_of side).end (length marks)) ∷ [])) refusal refreshes
+  refresh_stopped : (r : Refusal) → code r ≡ verdict refresh → RefreshDone (refresh_reply side held marks) (code r) held marks
   unfolding refresh_reply
-  by_tests = ap (λ (ts : List Test). tested ts refusal refreshes) (refresh_tests_lem side held marks)
+  refresh_stopped r e = refreshed (left (code r)) (refused_by left _ refresh (code r) e (code_some r))
 
-  pub refresh_refused : (n : ℕ) → n ≡ verdict follow → (n ≡ 0 → ⊥) → RefreshDone (refresh_reply side held marks) n held marks
-  refresh_refused n e ne = refreshed (refusal n) (by_tests ∙ refused_before refusal refreshes follow _ n e ne)
+  by_parts : refresh ≡ follow_tests held side (whole side held) last
+  unfolding refresh_tests kept_tests pair_tests whole_tests mark_tests header_tests index_tests
+  by_parts = refl
 
-  pub refresh_short : passes follow ≡ true → length marks < (header_of side).end
-      → RefreshDone (refresh_reply side held marks) Refusals.short held marks
-  refresh_short p h =
-      refreshed (refusal Refusals.short)
-      (by_tests ∙ refused_last refusal refreshes follow _ _ p (lt-leb (header_of side).end (length marks) h))
+  numbered_refresh : all_of numbered refresh ≡ true
+  unfolding refresh_tests whole_tests mark_tests header_tests index_tests all_of
+  numbered_refresh = refl
 
-  -- old and new are the two headers
-  pub refresh_done : passes follow ≡ true → (old new : Header) → old ≡ header_of held → new ≡ header_of side → new.end ≤ length marks
-      → (n : ℕ) → n ≡ index_end new.settings
-      → RefreshDone (refresh_reply side held marks) 0 (lay held 0 (part side 0 n))
-      (map (mark_of old.closed (index_of side)) (below new.end) ++ drop new.end marks)
-  unfolding taken marks_after
-  refresh_done p old new e f h n g =
-      rw (g, e, f)
-      (refreshed refreshes (by_tests ∙ accepted_last refusal refreshes follow _ _ p (le-leb (header_of side).end (length marks) (rw f at h))))
+  parts_stopped : (r : Refusal) → code r ≡ verdict (follow_tests held side (whole side held) last) → RefreshDone (refresh_reply side held marks) (code r) held marks
+  parts_stopped r e = refresh_stopped r (e ∙ sym (ap verdict by_parts))
+
+  pub kept_refused : (r : Refusal) → code r ≡ verdict (kept_tests held) → RefreshDone (refresh_reply side held marks) (code r) held marks
+  kept_refused r e = parts_stopped r (kept_stops held side (whole side held) last r e)
+
+  module _ (k : 0 ≡ verdict (kept_tests held)) where
+    pub side_refused : (r : Refusal) → code r ≡ verdict (whole side held) → RefreshDone (refresh_reply side held marks) (code r) held marks
+    side_refused r e = parts_stopped r (side_stops held side (whole side held) last k r e)
+
+    module _ (w : 0 ≡ verdict (whole side held)) where
+      pub pair_refused : (r : Refusal) → code r ≡ verdict (pair_tests (header_of held) (header_of side)) → RefreshDone (refresh_reply side held marks) (code r) held marks
+      pair_refused r e = parts_stopped r (pair_stops held side (whole side held) last k (numbered_whole side held) w r e)
+
+      module _ (p : 0 ≡ verdict (pair_tests (header_of held) (header_of side))) (new : Header) (f : new ≡ header_of side) where
+        behind : verdict last ≡ verdict (follow_tests held side (whole side held) last)
+        behind = behind_pair held side (whole side held) last k (numbered_whole side held) w p
+
+        pub refresh_short : length marks < new.end → RefreshDone (refresh_reply side held marks) Refusals.short held marks
+        refresh_short h = parts_stopped Reason.Short (narrow (header_of side).end (length marks) (rw f at h) ∙ behind)
+
+        pub refresh_done : (old : Header) → old ≡ header_of held → new.end ≤ length marks → (n : ℕ) → n ≡ index_end new.settings
+            → RefreshDone (refresh_reply side held marks) 0 (lay held 0 (part side 0 n))
+            (map (mark_of old.closed (index_of side)) (below new.end) ++ drop new.end marks)
+        unfolding refresh_reply taken marks_after
+        refresh_done old e h n g =
+            let v = roomy (header_of side).end (length marks) (rw f at h) ∙ behind ∙ sym (ap verdict by_parts) in
+            rw (g, e, f)
+            (refreshed (record { number = 0; held = taken side held; marks = marks_after side held marks })
+            (tested_passes left _ refresh (verdict_none refresh numbered_refresh (sym v))))

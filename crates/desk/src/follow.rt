@@ -1,60 +1,48 @@
-// What refresh and read ask alike: 3 of the held buffer, 11 and 12 of the side file, 12 and 13 of the two together.
-ghost use Rattle.std.specs.Prelude.{◌≡◌};
+// What refresh and read ask alike: 3 of the held buffer, and 12 and 13 of a side file's header beside it. Between the two a
+// refresh judges the whole side file, a read only its header and length.
+ghost use Rattle.std.specs.Prelude.{◌≡◌, ◌≤◌, length};
+ghost use Rattle.units.specs.Refusals as Refusals;
+ghost use Rattle.units.specs.Sizes.{header_length};
 ghost use Rattle.units.specs.Tests.{verdict};
-ghost use Rattle.desk.specs.inner.Follow.{side_tests, follow_tests};
-ghost use Rattle.desk.specs.Take.{same_settings, within_lag};
+ghost use Rattle.sidefile.specs.Encode.{header_of};
+ghost use Rattle.desk.specs.Take.{within_lag};
+ghost use Rattle.desk.specs.inner.Follow.{kept_tests, pair_tests};
 
 use sidefile::{Header, headers, judge};
-use units::{Settings, refusal};
+use units::Refusal;
 
-fn same_settings(held: Settings, side: Settings) -> bool
-    ensures { result ≡ same_settings held side }
+// 3: the held buffer breaks its rules.
+#[tactic(auto, unfolding(crate::specs::inner::Follow::kept_tests, units::specs::Tests::verdict))]
+pub fn kept(held: &[u8]) -> Result<(), Refusal>
+    ensures { Refusals.number result ≡ verdict (kept_tests held.now) }
 {
-    if held.size != side.size {
-        return false;
+    if judge::held_passes(held) {
+        Ok(())
+    } else {
+        Err(Refusal::State)
     }
-    if held.slots != side.slots {
-        return false;
-    }
-    held.lag == side.lag
 }
 
+#[tactic(auto, unfolding(crate::specs::Take::within_lag))]
 fn within_lag(held: Header, side: Header) -> bool
     ensures { result ≡ within_lag held side }
 {
-    if side.closed.0 < held.closed.0 {
-        return false;
-    }
-    (side.closed.0 as u64) <= held.closed.plus(held.settings.lag)
+    held.closed <= side.closed && u64::from(side.closed.0) <= held.closed.plus(held.settings.lag)
 }
 
-// 11, 12 or 0: of a whole side file, or of its header and length.
-fn judged(side: &[u8], whole: bool) -> u32
-    ensures { result ≡ verdict (side_tests whole side.now) }
+// 12 or 13: the side file has other settings than those held, or a tick below the held one or too far above it.
+#[tactic(auto, unfolding(crate::specs::inner::Follow::pair_tests, crate::specs::Take::same_settings, sidefile::specs::Encode::header_of, units::specs::Tests::verdict))]
+pub fn paired(held: &[u8], side: &[u8]) -> Result<(), Refusal>
+    requires { (header_length ≤ length held.now) × (header_length ≤ length side.now) }
+    ensures { Refusals.number result ≡ verdict (pair_tests (header_of held.now) (header_of side.now)) }
 {
-    if whole {
-        return judge::judge_whole(side, side.len());
-    }
-    judge::judge_front(side, side.len())
-}
-
-pub fn follow(side: &[u8], held: &[u8], whole: bool) -> u32
-    ensures { result ≡ verdict (follow_tests whole held.now side.now) }
-{
-    if !judge::held_passes(held) {
-        return refusal::STATE;
-    }
-    let number = judged(side, whole);
-    if number != 0 {
-        return number;
-    }
     let old = headers::header_of(held);
     let new = headers::header_of(side);
-    if !same_settings(old.settings, new.settings) {
-        return refusal::DAMAGED;
+    if old.settings != new.settings {
+        return Err(Refusal::Damaged);
     }
     if !within_lag(old, new) {
-        return refusal::LAG;
+        return Err(Refusal::Lag);
     }
-    0
+    Ok(())
 }

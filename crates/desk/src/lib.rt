@@ -7,14 +7,32 @@ mod locate;
 mod marks;
 
 ghost use Rattle.std.specs.Prelude.{◌≡◌};
+ghost use Rattle.units.specs.Refusals as Refusals;
 ghost use Rattle.desk.specs.Outcome.{TakeDone, RefreshDone, Handed};
 ghost use Rattle.desk.specs.Part.{part_of};
 ghost use Rattle.desk.specs.Read.{desk_read};
+ghost use Rattle.desk.specs.Source as Sources;
 ghost use Rattle.desk.specs.Take.{take_reply, refresh_reply};
 
+use locate::{Asked, Span};
 use octets::copy;
-use sidefile::{headers, judge, wide};
-use units::{Page, refusal};
+use sidefile::{headers, judge};
+use units::{Page, Refusal};
+
+// The slice that a read hands out a part of; for C 0 and 1 (specs/Source).
+#[derive(Clone, Copy, Debug, PartialEq, Eq)]
+pub enum Source {
+    Base = 0,
+    Side = 1,
+}
+
+impl From<Source> for u32 {
+    ghost from_gives = { λ source n. n ≡ Sources.number source };
+
+    fn from(source: Source) -> u32 {
+        source as u32
+    }
+}
 
 // What a read answers to a program that takes its bytes itself: the number of refusal, the slice (0 the base, 1 the side
 // file) and where in it they begin. Of a refusal the last two are 0.
@@ -26,38 +44,36 @@ pub struct Part {
     pub offset: usize,
 }
 
-// The side file's header and index, copied into the held buffer. 11, 12, 2 or 0.
-pub fn take(side: &[u8], held: &mut [u8]) -> u32
-    ensures { TakeDone (take_reply side.now held.old) result held.new }
+// The side file's header and index, copied into the held buffer. 11, 12 or 2.
+#[tactic(auto, using(crate::proofs::Followed::whole_long, crate::proofs::Followed::whole_indexed, crate::proofs::Followed::whole_room, crate::proofs::Replied::take_refused, crate::proofs::Replied::take_short, crate::proofs::Replied::take_done))]
+pub fn take(side: &[u8], held: &mut [u8]) -> Result<(), Refusal>
+    ensures { TakeDone (take_reply side.now held.old) (Refusals.number result) held.new }
 {
-    let number = judge::judge_whole(side, side.len());
-    if number != 0 {
-        return number;
-    }
+    judge::judge_whole(side, side.len())?;
     let n = headers::header_of(side).settings.held_length();
     if held.len() < n {
-        return refusal::SHORT;
+        return Err(Refusal::Short);
     }
     copy(side, 0, held, 0, n);
-    0
+    Ok(())
 }
 
-// The new header and index, and a mark for each page below the new end. 3, 11, 12, 13, 2 or 0. The marks come first: they
+// The new header and index, and a mark for each page below the new end. 3, 11, 12, 13 or 2. The marks come first: they
 // compare with the tick that the copy overwrites.
-pub fn refresh(side: &[u8], held: &mut [u8], marks: &mut [u8]) -> u32
-    ensures { RefreshDone (refresh_reply side.now held.old marks.old) result held.new marks.new }
+#[tactic(auto, using(crate::proofs::Followed::held_long, crate::proofs::Followed::whole_long, crate::proofs::Followed::whole_indexed, crate::proofs::Followed::whole_room, crate::proofs::Followed::held_room, crate::proofs::Replied::kept_refused, crate::proofs::Replied::side_refused, crate::proofs::Replied::pair_refused, crate::proofs::Replied::refresh_short, crate::proofs::Replied::refresh_done))]
+pub fn refresh(side: &[u8], held: &mut [u8], marks: &mut [u8]) -> Result<(), Refusal>
+    ensures { RefreshDone (refresh_reply side.now held.old marks.old) (Refusals.number result) held.new marks.new }
 {
-    let number = follow::follow(side, held, true);
-    if number != 0 {
-        return number;
-    }
+    follow::kept(held)?;
+    judge::judge_whole(side, side.len())?;
+    follow::paired(held, side)?;
     let header = headers::header_of(side);
-    if marks.len() < wide(header.end) {
-        return refusal::SHORT;
+    if marks.len() < header.end as usize {
+        return Err(Refusal::Short);
     }
     marks::mark(side, header, headers::header_of(held).closed, marks);
     copy(side, 0, held, 0, header.settings.held_length());
-    0
+    Ok(())
 }
 
 // The part of the side file or of the base where the page's bytes lie, of the very slice that was lent. On a refusal it is
@@ -72,16 +88,42 @@ pub fn read<'a>(
 ) -> &'a [u8]
     ensures { Handed (desk_read held.now side.now base.now page.0 offset length) side.entry base.entry result }
 {
-    let found = locate::locate(side, base, held, page, offset, length);
-    let start = found.start;
-    let end = start + found.size;
-    if found.source == locate::SIDE {
-        return &side[start..end];
+    let asked = Asked {
+        page,
+        offset,
+        length,
+    };
+    let span = locate::locate(side, base, held, asked).unwrap_or(Span::NONE);
+    let end = span.start + span.size;
+    match span.source {
+        Source::Side => &side[span.start..end],
+        Source::Base => &base[span.start..end],
     }
-    &base[start..end]
 }
 
-// All that a read answers but the bytes, judged once. The three companions below answer its fields one by one.
+// What a read answers, part by part: C has a function for each, with these parameters.
+
+// Whether a read is refused: 3, 11, 12, 13, 2, 4, 6 or 14.
+pub fn read_number(
+    side: &[u8],
+    base: &[u8],
+    held: &[u8],
+    page: Page,
+    offset: u32,
+    length: u32,
+) -> Result<(), Refusal>
+    ensures { Refusals.number result ≡ (desk_read held.now side.now base.now page.0 offset length).number }
+{
+    let asked = Asked {
+        page,
+        offset,
+        length,
+    };
+    locate::locate(side, base, held, asked)?;
+    Ok(())
+}
+
+// All that a read answers but the bytes, judged once, in numbers as C has them.
 pub fn read_part(
     side: &[u8],
     base: &[u8],
@@ -92,29 +134,21 @@ pub fn read_part(
 ) -> Part
     ensures { result ≡ part_of (desk_read held.now side.now base.now page.0 offset length) }
 {
-    let found = locate::locate(side, base, held, page, offset, length);
+    let asked = Asked {
+        page,
+        offset,
+        length,
+    };
+    let found = locate::locate(side, base, held, asked);
+    let span = found.unwrap_or(Span::NONE);
     Part {
-        number: found.number,
-        source: found.source,
-        offset: found.start,
+        number: units::refusal::number(found.map(|_| ())),
+        source: u32::from(span.source),
+        offset: span.start,
     }
 }
 
-// The refusal of a read: 3, 11, 12, 13, 2, 4, 6, 14 or 0.
-pub fn read_number(
-    side: &[u8],
-    base: &[u8],
-    held: &[u8],
-    page: Page,
-    offset: u32,
-    length: u32,
-) -> u32
-    ensures { result ≡ (desk_read held.now side.now base.now page.0 offset length).number }
-{
-    locate::locate(side, base, held, page, offset, length).number
-}
-
-// The slice that a read hands out a part of: 0 the base, 1 the side file.
+// The slice that a read hands out a part of.
 pub fn read_source(
     side: &[u8],
     base: &[u8],
@@ -122,10 +156,17 @@ pub fn read_source(
     page: Page,
     offset: u32,
     length: u32,
-) -> u32
-    ensures { result ≡ (desk_read held.now side.now base.now page.0 offset length).source }
+) -> Source
+    ensures { Sources.number result ≡ (desk_read held.now side.now base.now page.0 offset length).source }
 {
-    locate::locate(side, base, held, page, offset, length).source
+    let asked = Asked {
+        page,
+        offset,
+        length,
+    };
+    locate::locate(side, base, held, asked)
+        .unwrap_or(Span::NONE)
+        .source
 }
 
 // Where in that slice the part begins.
@@ -139,5 +180,12 @@ pub fn read_offset(
 ) -> usize
     ensures { result ≡ (desk_read held.now side.now base.now page.0 offset length).offset }
 {
-    locate::locate(side, base, held, page, offset, length).start
+    let asked = Asked {
+        page,
+        offset,
+        length,
+    };
+    locate::locate(side, base, held, asked)
+        .unwrap_or(Span::NONE)
+        .start
 }

@@ -1,120 +1,110 @@
 // Where the bytes of a read lie: in the image of the page's held entry, or in the base.
-ghost use Rattle.std.specs.Prelude.{◌≡◌, true, ◌+◌, ◌≤◌, ◌<◌};
+ghost use Rattle.std.specs.Prelude.{◌≡◌, true, ◌+◌, ◌≤◌};
 ghost use Rattle.std.proofs.Math.ListN as ListN;
+ghost use Rattle.units.specs.Refusals as Refusals;
 ghost use Rattle.units.specs.Sizes.{limits, image_at};
 ghost use Rattle.units.specs.Tests.{verdict};
 ghost use Rattle.desk.specs.Read.{span_tests, read_tests, desk_read};
-ghost use Rattle.desk.specs.inner.Span.{no_span, base_span, image_span, Locates};
+ghost use Rattle.desk.specs.inner.Span.{base_span, image_span, Locates};
 
-use crate::follow;
-use sidefile::{Header, IndexEntry, headers, rows, wide};
-use units::{Page, Settings, refusal};
+use crate::{Source, follow};
+use sidefile::{Header, IndexEntry, Table, headers, judge};
+use units::{Page, Refusal, Settings};
 
-pub const BASE: u32 = 0;
-
-pub const SIDE: u32 = 1;
-
-// A number of refusal, or 0 and a span: the slice, where in it the span begins, and how long it is. Of a refusal the span is
-// the empty one at the base's start.
+// What a read asks for: `length` bytes of a page, from `offset` on.
 #[derive(Clone, Copy)]
-pub struct Found {
-    pub number: u32,
-    pub source: u32,
+pub struct Asked {
+    pub page: Page,
+    pub offset: u32,
+    pub length: u32,
+}
+
+// Where they lie.
+#[derive(Clone, Copy)]
+pub struct Span {
+    pub source: Source,
     pub start: usize,
     pub size: usize,
 }
 
-fn refuse(number: u32) -> Found
-    ensures { result ≡ no_span number }
-{
-    Found {
-        number,
-        source: BASE,
+impl Span {
+    // The part that a refused read hands out: the empty one at the base's start.
+    pub const NONE: Span = Span {
+        source: Source::Base,
         start: 0,
         size: 0,
-    }
+    };
 }
 
-// 2, 4, 6 or 0: what the base and the span are asked.
-fn spanned(base: &[u8], held: Header, page: Page, offset: u32, length: u32) -> u32
-    ensures { result ≡ verdict (span_tests held base.now page.0 offset length) }
-{
-    let size = wide(held.settings.size);
-    if base.len() < size * wide(held.end) {
-        return refusal::SHORT;
+impl Asked {
+    // 2, 4 or 6: what the base and the span are asked.
+    #[tactic(auto, unfolding(crate::specs::Read::span_tests, units::specs::Tests::verdict))]
+    fn within(self, base: &[u8], held: Header) -> Result<(), Refusal>
+        ensures { Refusals.number result ≡ verdict (span_tests held base.now self.page.0 self.offset self.length) }
+    {
+        let size = held.settings.size as usize;
+        if base.len() < size * held.end as usize {
+            return Err(Refusal::Short);
+        }
+        if held.end <= self.page.0 {
+            return Err(Refusal::Page);
+        }
+        if self.length < 1 || size < self.offset as usize + self.length as usize {
+            return Err(Refusal::Span);
+        }
+        Ok(())
     }
-    if held.end <= page.0 {
-        return refusal::PAGE;
+
+    #[tactic(auto, unfolding(crate::specs::inner::Span::base_span))]
+    fn in_base(self, settings: Settings) -> Span
+        ensures { result ≡ base_span settings self.page.0 self.offset self.length }
+    {
+        Span {
+            source: Source::Base,
+            start: self.page.0 as usize * settings.size as usize + self.offset as usize,
+            size: self.length as usize,
+        }
     }
-    if length < 1 {
-        return refusal::SPAN;
+
+    // The checksum is that of the whole image, however short the span.
+    #[tactic(auto, unfolding(crate::specs::inner::Span::image_span, sidefile::specs::Encode::image_sum, sidefile::specs::Encode::checksum, octets::specs::Part::part))]
+    fn in_image(self, side: &[u8], settings: Settings, x: IndexEntry) -> Result<Span, Refusal>
+        requires { (limits settings ≡ true) × (image_at settings x.place + settings.size ≤ ListN.length side.now) }
+        ensures { result ≡ image_span settings side.now x self.offset self.length }
+    {
+        let at = settings.image_at(x.place);
+        let end = at + settings.size as usize;
+        if lookup3::checksum(&side[at..end]) != x.sum {
+            return Err(Refusal::Image);
+        }
+        Ok(Span {
+            source: Source::Side,
+            start: at + self.offset as usize,
+            size: self.length as usize,
+        })
     }
-    if size < wide(offset) + wide(length) {
-        return refusal::SPAN;
-    }
-    0
 }
 
 // Every refusal but 14.
-fn readable(side: &[u8], base: &[u8], held: &[u8], page: Page, offset: u32, length: u32) -> u32
-    ensures { result ≡ verdict (read_tests held.now side.now base.now page.0 offset length) }
+#[tactic(auto, using(crate::proofs::Followed::held_long, crate::proofs::Followed::front_long, crate::proofs::Spans::kept_refuses, crate::proofs::Spans::front_refuses, crate::proofs::Spans::pair_refuses, crate::proofs::Spans::span_decides))]
+fn readable(side: &[u8], base: &[u8], held: &[u8], asked: Asked) -> Result<(), Refusal>
+    ensures { Refusals.number result ≡ verdict (read_tests held.now side.now base.now asked.page.0 asked.offset asked.length) }
 {
-    let number = follow::follow(side, held, false);
-    if number != 0 {
-        return number;
-    }
-    spanned(base, headers::header_of(held), page, offset, length)
+    follow::kept(held)?;
+    judge::judge_front(side, side.len())?;
+    follow::paired(held, side)?;
+    asked.within(base, headers::header_of(held))
 }
 
-fn in_base(settings: Settings, page: Page, offset: u32, length: u32) -> Found
-    ensures { result ≡ base_span settings page.0 offset length }
+#[tactic(auto, using(crate::proofs::Spans::read_long, crate::proofs::Spans::read_rows, crate::proofs::Spans::found_below, crate::proofs::Spans::image_fits, crate::proofs::Spans::locate_refused, crate::proofs::Spans::locate_image, crate::proofs::Spans::locate_base))]
+pub fn locate(side: &[u8], base: &[u8], held: &[u8], asked: Asked) -> Result<Span, Refusal>
+    ensures { Locates (desk_read held.now side.now base.now asked.page.0 asked.offset asked.length) side.now base.now result }
 {
-    Found {
-        number: 0,
-        source: BASE,
-        start: wide(page.0) * wide(settings.size) + wide(offset),
-        size: wide(length),
-    }
-}
-
-// The checksum is that of the whole image, however short the span.
-fn in_image(side: &[u8], settings: Settings, x: IndexEntry, offset: u32, length: u32) -> Found
-    requires { (limits settings ≡ true) × (image_at settings x.place + settings.size ≤ ListN.length side.now) }
-    ensures { result ≡ image_span settings side.now x offset length }
-{
-    let at = settings.image_at(x.place);
-    let end = at + wide(settings.size);
-    if lookup3::checksum(&side[at..end]) != x.sum {
-        return refuse(refusal::IMAGE);
-    }
-    Found {
-        number: 0,
-        source: SIDE,
-        start: at + wide(offset),
-        size: wide(length),
-    }
-}
-
-pub fn locate(side: &[u8], base: &[u8], held: &[u8], page: Page, offset: u32, length: u32) -> Found
-    ensures { Locates (desk_read held.now side.now base.now page.0 offset length) side.now base.now result }
-{
-    let number = readable(side, base, held, page, offset, length);
-    if number != 0 {
-        return refuse(number);
-    }
+    readable(side, base, held, asked)?;
     let header = headers::header_of(held);
-    let at = Settings::HEADER_LENGTH;
-    let w = Settings::INDEX_ROW;
-    let n = wide(header.entries);
-    let i = rows::find(held, at, w, n, page);
-    if i < n {
-        return in_image(
-            side,
-            header.settings,
-            rows::entry(held, at, w, i),
-            offset,
-            length,
-        );
+    let index = Table::index(held, header.entries as usize);
+    match index.find(asked.page) {
+        Some(i) => asked.in_image(side, header.settings, index.entry(i)),
+        None => Ok(asked.in_base(header.settings)),
     }
-    in_base(header.settings, page, offset, length)
 }

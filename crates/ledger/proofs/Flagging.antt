@@ -1,12 +1,13 @@
 -- Flags of rows, set one after the other: what one turn of a loop does. Assumes nothing.
-use Prim.Native.Nat.{ℕ, suc, ◌+◌, ◌-◌, ◌*◌, ◌<◌, ◌≤◌}
+use Prim.Native.Nat.{ℕ, suc, ◌+◌, ◌-◌, ◌*◌, ◌<◌}
 use mathlib.Core.Path.{◌≡◌, ◌∙◌, sym, ap}
 use mathlib.Core.Bool.{Bool, true, false, ◌||◌}
 use mathlib.Core.List.{List, [], ◌∷◌, ◌++◌, map, append_assoc}
 use native.Mathlib.Numerals.{add-one}
 use native.Mathlib.Omega.{arith}
+use Rattle.std.specs.Prelude.{Some, None, position}
 use lib.Dec.{eqb}
-use lib.ListN.{length, take, set, get_or, get_elem?, replicate, length-map, length-replicate}
+use lib.ListN.{length, take, set, get_or, replicate, length-map, length-replicate}
 use lib.Seq.{take_at, take-suc, take-suc-set, take-set-lt, set_at, set_out, length-take-le}
 use Rattle.lists.specs.laws.Bools.{or_no, or_assoc}
 use Rattle.lists.specs.laws.Maps.{map_append, any_snoc}
@@ -17,18 +18,25 @@ use Rattle.octets.specs.Rows.{row}
 use Rattle.units.specs.Sizes.{entry_row}
 use Rattle.units.specs.declared.Tick.{Tick}
 use Rattle.sidefile.specs.Judge.{ascending}
-use Rattle.sidefile.specs.inner.Table.{position}
+use Rattle.sidefile.specs.inner.Table as Table
 use Rattle.ledger.specs.declared.Entry.{Entry}
 use Rattle.ledger.specs.View.{indexed, entry_of, entries_in}
 use Rattle.ledger.specs.Entries.{page_of, has, find, retires, entered_or}
 use Rattle.ledger.specs.inner.Changed.{among, is_old, entry_ticks, retires_old, mark_page}
-use Rattle.ledger.specs.inner.Search.{find_get}
+use Rattle.ledger.specs.inner.Search.{some_answer, none_answer}
 use Rattle.ledger.specs.laws.Read.{entry_last, entries_whole}
 use Rattle.ledger.specs.laws.Rowed.{length_entries_in}
 
 -- how long a table of flags is of which none is set
 pub table_bytes : (s : List ℕ) (n : ℕ) → flags s ≡ replicate n false → 8 * length s ≡ n
 table_bytes s n e = omega (arith, length_flags s, ap length e, length-replicate n false)
+
+-- so each flag of a row or of a place can be read and set, also once some are set
+pub row_room : (s t : List ℕ) (i : ℕ) → flags s ≡ replicate 144 false → length t ≡ length s → i < 144 → i < 8 * length t
+row_room s t i e l h = omega (arith, table_bytes s 144 e)
+
+pub place_room : (s t : List ℕ) (q : ℕ) → flags s ≡ replicate 272 false → length t ≡ length s → q < 272 → q < 8 * length t
+place_room s t q e l h = omega (arith, table_bytes s 272 e)
 
 -- flags by what a test says of the first i entries, and none set behind them
 module _ (t : Entry → Bool) (m n : ℕ) (xs : List ℕ) where
@@ -82,12 +90,9 @@ module _ (wait : ℕ) (N : Tick) (es : List Entry) where
   pub goes_all : (cs : List ℕ) → map (goes cs) es ≡ map (retires wait N (among cs)) es
   goes_all cs = λ i. map (λ e. retires_old wait N (among cs) e i) es
 
-  module _ (cs : List ℕ) (j : ℕ) (h : j < length cs) where
-    abbrev c : ℕ
-    c = get_or cs j 0
-
+  module _ (cs : List ℕ) (j : ℕ) (h : j < length cs) (c : ℕ) (here : c ≡ get_or cs j 0) where
     cs_next : take (j + 1) cs ≡ take j cs ++ (c ∷ [])
-    cs_next = rw (add-one j) (take-suc cs j 0 h)
+    cs_next = rw (add-one j, here) (take-suc cs j 0 h)
 
     goes_next : map (λ e. goes (take j cs) e || has c e) es ≡ map (goes (take (j + 1) cs)) es
     unfolding among has
@@ -96,17 +101,19 @@ module _ (wait : ℕ) (N : Tick) (es : List Entry) where
         one : (e : Entry) → (goes (take j cs) e || has c e) ≡ goes (take (j + 1) cs) e
         one e = sym (or_assoc (is_old wait N e) (among (take j cs) (page_of e)) (has c e)) ∙ rw (cs_next, any_snoc (eqb (page_of e)) (take j cs) c)
 
-    module _ (at : ℕ) (found : at ≡ position (has c) es) (n : ℕ) (l : length es ≡ n) (going : List Bool) (e : take n going ≡ map (goes (take j cs)) es) where
-      pub goes_marked : ascending 0 (map indexed es) ≡ true → at < n → take n (set going at true) ≡ map (goes (take (j + 1) cs)) es
-      goes_marked a k =
-          take-set-lt n going at true k ∙ rw (e, found) (mark_page (goes (take j cs)) c 0 es a) ∙ goes_next
+    module _ (n : ℕ) (l : length es ≡ n) (going : List Bool) (e : take n going ≡ map (goes (take j cs)) es) (a : ascending 0 (map indexed es) ≡ true) where
+      pub goes_marked : (at : ℕ) → position (has c) es ≡ Some at → take n (set going at true) ≡ map (goes (take (j + 1) cs)) es
+      goes_marked at found =
+          let s = some_answer (has c) es at found in
+          take-set-lt n going at true (omega arith) ∙ rw (e, s.1) (mark_page (goes (take j cs)) c 0 es a) ∙ goes_next
 
-      pub goes_unmarked : ascending 0 (map indexed es) ≡ true → n ≤ at → take n going ≡ map (goes (take (j + 1) cs)) es
-      goes_unmarked a k =
-          e ∙ sym (set_out (map (goes (take j cs)) es) at true (rw (length-map es (goes (take j cs)), l) k)) ∙ rw found (mark_page (goes (take j cs)) c 0 es a) ∙ goes_next
+      pub goes_unmarked : position (has c) es ≡ None → take n going ≡ map (goes (take (j + 1) cs)) es
+      goes_unmarked found =
+          let at = Table.position (has c) es in
+          e ∙ sym (set_out (map (goes (take j cs)) es) at true (rw (length-map es (goes (take j cs))) (none_answer (has c) es found))) ∙ mark_page (goes (take j cs)) c 0 es a ∙ goes_next
 
-    pub tick_next : (at : ℕ) → at ≡ position (has c) es → (entered : List ℕ) → j < length entered → take j entered ≡ entry_ticks N es (take j cs)
-        → (t : Tick) → t ≡ entered_or N (get_elem? es at) → take (j + 1) (set entered j t.0) ≡ entry_ticks N es (take (j + 1) cs)
+    pub tick_next : (entered : List Tick) → j < length entered → take j entered ≡ entry_ticks N es (take j cs)
+        → (t : Tick) → t ≡ entered_or N (find c es) → take (j + 1) (set entered j t) ≡ entry_ticks N es (take (j + 1) cs)
     unfolding entry_ticks
-    tick_next at found entered m e t q =
-        rw (cs_next, map_append (λ p. (entered_or N (find p es)).0) (take j cs) (c ∷ []), ← e, find_get c es, ← found, ← q, add-one j) (take-suc-set entered j t.0 m)
+    tick_next entered m e t q =
+        rw (cs_next, map_append (λ p. entered_or N (find p es)) (take j cs) (c ∷ []), ← e, ← q, add-one j) (take-suc-set entered j t m)

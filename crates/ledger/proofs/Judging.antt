@@ -1,118 +1,59 @@
 -- The judge of the ledger: what one turn of each pass does. Assumes nothing.
-use Prim.Native.Nat.{ℕ, ◌+◌, ◌<◌, ◌≤◌}
+use Prim.Native.Nat.{ℕ, zero, suc, ◌+◌, ◌*◌, ◌<◌, ◌≤◌}
 use mathlib.Core.Path.{◌≡◌, refl, ◌∙◌, sym, ap}
-use mathlib.Core.Bool.{Bool, true, false, not, ◌&&◌, ◌||◌}
+use mathlib.Core.Bool.{Bool, true, false, ◌||◌}
 use mathlib.Core.List.{List, map}
 use native.Mathlib.Omega.{arith}
-use lib.Dec.{eqb, leb}
-use lib.ListN.{drop, get_or}
-use borrow.Author.Tests.{ne_eqb, le-leb, lt-leb}
+use lib.Dec.{eqb}
+use lib.ListN.{length, take, drop, get_or, length-take}
+use lib.Seq.{drop-drop, get_or-take}
+use Rattle.std.specs.List.{list_all, range_with_len}
 use Rattle.lists.specs.Below.{below}
 use Rattle.lists.specs.laws.Below.{every_from}
-use Rattle.lists.specs.laws.Bools.{and_make, and_left, and_right, or_right, not_both, false_of}
-use Rattle.lists.specs.laws.Maps.{all_same}
+use Rattle.lists.specs.laws.Bools.{not_both, false_of}
+use Rattle.lists.specs.laws.Maps.{all_same, any_snoc}
+use Rattle.lists.specs.laws.Passes.{below_snoc}
 use Rattle.lists.specs.Scans.{any_of, all_of}
 use Rattle.lists.specs.laws.Scans.{every_map}
-use Rattle.octets.specs.Rows.{row}
-use Rattle.units.specs.Sizes.{entry_row, place_row, places, places_at, wait}
+use Rattle.octets.specs.Part.{part}
+use Rattle.octets.specs.Rows.{row, rows}
+use Rattle.units.specs.laws.Bounds.{limits_within}
+use Rattle.units.specs.Sizes.{limits, entry_row, places, wait}
+use Rattle.units.specs.declared.Page.{Page}
 use Rattle.units.specs.declared.Settings.{Settings}
 use Rattle.units.specs.declared.Tick.{Tick}
-use Rattle.sidefile.specs.inner.Table.{column, pages_fit, places_fit}
+use Rattle.sidefile.specs.inner.Table.{pages_fit, places_fit}
 use Rattle.ledger.specs.declared.Entry.{Entry}
-use Rattle.ledger.specs.View.{indexed, entry_of, entries_in, place_row_at, retired, retired_at}
-use Rattle.ledger.specs.Entries.{page_of, at, is_owed}
+use Rattle.ledger.specs.View.{indexed, entry_of, entries_in}
+use Rattle.ledger.specs.Entries.{at}
 use Rattle.ledger.specs.Rules.{ledger_rules}
 use Rattle.ledger.specs.inner.Fits.{ticks_fit, place_fits, fits_pages, fits_ticks, fits_places, fits_retired, fits_all}
-use Rattle.ledger.specs.laws.Read.{entry_next, entries_end}
 use Rattle.ledger.specs.inner.Tables.{held_by, table_get}
 
--- A pass over entries.
+-- A pass over the first S seats, one more of them.
 
-module _ (t : Entry → Bool) (n : ℕ) (xs : List ℕ) (i : ℕ) where
-  pub entry_end : n ≤ i → all_of t (drop i (entries_in n xs)) ≡ true
-  unfolding all_of
-  entry_end h = rw (entries_end n xs i h)
+pub sits_next : (S : ℕ) (seats : List Page) (p i : ℕ) (found b : Bool) → found ≡ any_of (λ k. eqb (get_or seats k (record { 0 = 0 })).0 p) (below i)
+    → i < length (take S seats) → b ≡ eqb (get_or (take S seats) i (record { 0 = 0 })).0 p
+    → (found || b) ≡ any_of (λ k. eqb (get_or seats k (record { 0 = 0 })).0 p) (below (i + 1))
+sits_next S seats p i found b e h q =
+    let t : ℕ → Bool = λ k. eqb (get_or seats k (record { 0 = 0 })).0 p in
+    rw (e, q, get_or-take S seats i (record { 0 = 0 }) (omega (arith, length-take S seats))) (sym (ap (any_of t) (below_snoc i) ∙ any_snoc t (below i) i))
 
-  module _ (h : i < n) where
-    pub entry_stop : t (entry_of (row 0 entry_row i xs)) ≡ false → all_of t (drop i (entries_in n xs)) ≡ false
-    unfolding all_of
-    entry_stop k = rw (entry_next n xs i h, k)
+-- A test of all entries, by their rows.
 
-    pub entry_turn : t (entry_of (row 0 entry_row i xs)) ≡ true → all_of t (drop i (entries_in n xs)) ≡ all_of t (drop (i + 1) (entries_in n xs))
-    unfolding all_of
-    entry_turn k = rw (entry_next n xs i h, k)
+pub entries_all : (t : Entry → Bool) (n : ℕ) (xs : List ℕ) → list_all (λ i. t (entry_of (row 0 entry_row i xs))) (range_with_len 0 n) ≡ all_of t (entries_in n xs)
+unfolding entries_in rows all_of row part
+entries_all t n xs = go 0 n
+  where
+    go : (a m : ℕ) → list_all (λ i. t (entry_of (row 0 entry_row i xs))) (range_with_len a m) ≡ all_of t (map entry_of (rows entry_row m (drop (a * entry_row) xs)))
+    go a zero = refl
+    go a (suc m) =
+        let e : (a + 1) * entry_row ≡ a * entry_row + entry_row = omega arith in
+        let z : 0 + a * entry_row ≡ a * entry_row = omega arith in
+        rw (go (a + 1) m, e, z, drop-drop entry_row (a * entry_row) xs)
 
--- What makes an entry fit, and what does not.
+-- The places, by a table of those that entries hold.
 
-module _ (w : ℕ) (closed : Tick) (seated : ℕ → Bool) (e : Entry) where
-  abbrev early : Bool
-  early = leb e.entered.0 e.changed.0
-
-  abbrev late : Bool
-  late = leb e.changed.0 closed.0
-
-  abbrev kept : Bool
-  kept = not (is_owed w closed e) || seated (page_of e)
-
-  pub entered_late : e.changed.0 < e.entered.0 → ticks_fit w closed seated e ≡ false
-  unfolding ticks_fit
-  entered_late h = and_left (early && late) kept (and_left early late (lt-leb e.entered.0 e.changed.0 h))
-
-  pub changed_late : closed.0 < e.changed.0 → ticks_fit w closed seated e ≡ false
-  unfolding ticks_fit
-  changed_late h = and_left (early && late) kept (and_right early late (lt-leb e.changed.0 closed.0 h))
-
-  pub owed_unseated : is_owed w closed e ≡ true → seated (page_of e) ≡ false → ticks_fit w closed seated e ≡ false
-  unfolding ticks_fit
-  owed_unseated o h = and_right (early && late) kept (rw (o, h))
-
-  module _ (h : e.entered.0 ≤ e.changed.0) (k : e.changed.0 ≤ closed.0) where
-    fit : kept ≡ true → ticks_fit w closed seated e ≡ true
-    unfolding ticks_fit
-    fit o = and_make (early && late) kept (and_make early late (le-leb e.entered.0 e.changed.0 h) (le-leb e.changed.0 closed.0 k)) o
-
-    pub fit_unowed : is_owed w closed e ≡ false → ticks_fit w closed seated e ≡ true
-    fit_unowed o = fit (rw o)
-
-    pub fit_seated : seated (page_of e) ≡ true → ticks_fit w closed seated e ≡ true
-    fit_seated o = fit (or_right (not (is_owed w closed e)) (seated (page_of e)) o)
-
--- A place by its row: `at` is where the rows of places begin.
-
-unfoldable pub row_fits : ℕ → List ℕ → Tick → List Bool → ℕ → Bool
-row_fits at xs closed held q =
-    not (not (eqb (column 0 (row at place_row q xs)) 0)) || leb (column 1 (row at place_row q xs)) closed.0 && not (get_or held q false)
-
-rows_fit : (s : Settings) (closed : Tick) (xs : List ℕ) (held : List Bool) (q : ℕ)
-    → row_fits (places_at s) xs closed held q ≡ place_fits s closed xs (get_or held q false) q
-unfolding row_fits place_fits retired retired_at place_row_at column
-rows_fit s closed xs held q = refl
-
-module _ (at : ℕ) (xs : List ℕ) (closed : Tick) (held : List Bool) (q : ℕ) where
-  pub place_free : column 0 (row at place_row q xs) ≡ 0 → row_fits at xs closed held q ≡ true
-  unfolding row_fits
-  place_free e = rw e
-
-  module _ (ne : column 0 (row at place_row q xs) ≡ 0 → ⊥) where
-    taken : row_fits at xs closed held q ≡ (leb (column 1 (row at place_row q xs)) closed.0 && not (get_or held q false))
-    unfolding row_fits
-    taken = rw (ne_eqb (column 0 (row at place_row q xs)) 0 ne)
-
-    pub place_late : closed.0 < column 1 (row at place_row q xs) → row_fits at xs closed held q ≡ false
-    place_late h = taken ∙ and_left (leb (column 1 (row at place_row q xs)) closed.0) (not (get_or held q false)) (lt-leb (column 1 (row at place_row q xs)) closed.0 h)
-
-    pub place_held : get_or held q false ≡ true → row_fits at xs closed held q ≡ false
-    place_held h = taken ∙ and_right (leb (column 1 (row at place_row q xs)) closed.0) (not (get_or held q false)) (rw h)
-
-    pub place_fits_lem : column 1 (row at place_row q xs) ≤ closed.0 → get_or held q false ≡ false → row_fits at xs closed held q ≡ true
-    place_fits_lem h k =
-        taken ∙ and_make (leb (column 1 (row at place_row q xs)) closed.0) (not (get_or held q false)) (le-leb (column 1 (row at place_row q xs)) closed.0 h) (rw k)
-
-pub places_judged : (s : Settings) (closed : Tick) (xs : List ℕ) (held : List Bool) (at m : ℕ) → at ≡ places_at s → m ≡ places s
-    → all_of (row_fits at xs closed held) (below m) ≡ all_of (λ q. place_fits s closed xs (get_or held q false) q) (below (places s))
-places_judged s closed xs held at m a e = rw (a, e) (λ i. all_of (λ q. rows_fit s closed xs held q i) (below (places s)))
-
--- the places, by a table of those that entries hold
 pub held_judged : (s : Settings) (closed : Tick) (xs : List ℕ) (es : List Entry) (held : List Bool) → held ≡ held_by es → places s ≤ 272
     → all_of (λ q. place_fits s closed xs (get_or held q false) q) (below (places s)) ≡ all_of (λ q. place_fits s closed xs (any_of (at q) es) q) (below (places s))
 held_judged s closed xs es held e m =
@@ -121,6 +62,9 @@ held_judged s closed xs es held e m =
     (below (places s)) (every_from 0 (places s)))
 
 -- The verdict.
+
+pub slots_low : (s : Settings) → limits s ≡ true → s.slots ≤ 16
+slots_low s h = (limits_within s h).slots_most
 
 module _ (s : Settings) (end : ℕ) (closed : Tick) (seated : ℕ → Bool) (n : ℕ) (xs : List ℕ) where
   abbrev verdict : Bool

@@ -5,3 +5,4 @@ pub mod Judging
 pub mod Keeping
 pub mod Placing
 pub mod Putting
+pub mod Ranges

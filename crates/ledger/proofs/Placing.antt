@@ -1,13 +1,12 @@
 -- Places: what one turn of a loop does to a table by place, and to the rows of places. Assumes nothing.
 use Prim.Native.Nat.{ℕ, zero, suc, ◌+◌, ◌*◌, ◌<◌, ◌≤◌}
 use mathlib.Core.Path.{◌≡◌, refl, ◌∙◌, sym, ap}
-use mathlib.Core.Bool.{Bool, true, false, not}
+use mathlib.Core.Bool.{Bool, true, false}
 use mathlib.Core.List.{List, [], ◌∷◌, ◌++◌, map, append-nil}
 use native.Mathlib.Nat.{suc-mul, zero-mul}
 use native.Mathlib.Omega.{arith}
 use lib.ListN.{length, take, get_or, set, replicate, length-append}
 use lib.Seq.{length-take-le}
-use borrow.Author.Tests.{ne_eqb}
 use Rattle.lists.specs.Below.{from, below}
 use Rattle.lists.specs.Bools.{if_then}
 use Rattle.lists.specs.laws.Maps.{map_append, any_snoc}
@@ -16,15 +15,15 @@ use Rattle.lists.specs.Scans.{any_of}
 use Rattle.octets.specs.Number.{bytes32}
 use Rattle.octets.specs.laws.Number.{length_bytes}
 use Rattle.octets.specs.Part.{part, lay}
-use Rattle.octets.specs.laws.Part.{lay_nil, lay_next, lay_part, part_lay_after}
+use Rattle.octets.specs.laws.Part.{lay_nil, lay_next, part_lay_after}
 use Rattle.octets.specs.Rows.{row, join}
 use Rattle.octets.specs.laws.Rows.{join_append, length_row}
-use Rattle.units.specs.Ages as Ages
-use Rattle.units.specs.Ages.{tick}
-use Rattle.units.specs.Sizes.{entry_row, place_row, places, places_at, ledger_length, wait}
+use Rattle.units.specs.laws.Bounds.{limits_within, places_most}
+use Rattle.octets.specs.inner.Flags.{flags}
+use Rattle.octets.specs.laws.Flagging.{flags_clear, length_flags}
+use Rattle.units.specs.Sizes.{limits, entry_row, place_row, places, places_at, ledger_length, wait}
 use Rattle.units.specs.declared.Settings.{Settings}
 use Rattle.units.specs.declared.Tick.{Tick}
-use Rattle.sidefile.specs.inner.Table.{column}
 use Rattle.ledger.specs.declared.Entry.{Entry}
 use Rattle.ledger.specs.View.{entry_of, entries_in, place_row_at, retired, retired_at, retired_row, free_row}
 use Rattle.ledger.specs.Entries.{place_of, at}
@@ -32,9 +31,13 @@ use Rattle.ledger.specs.inner.Placed.{resting}
 use Rattle.ledger.specs.laws.Rowed.{length_entries_in}
 use Rattle.ledger.specs.laws.Read.{entry_last}
 use Rattle.ledger.specs.inner.Flagged.{picked, picked_snoc}
-use Rattle.ledger.specs.inner.Tables.{held_by, place_table, row_after, rows_after, table_none, table_mark}
+use Rattle.ledger.specs.inner.Tables.{held_by, place_table, row_after, rows_after, length_table, table_none, table_mark}
 
 -- Tables by place.
+
+-- a table of which no flag is set
+pub none_held : flags (replicate 34 0) ≡ replicate 272 false
+none_held = flags_clear 34
 
 pub held_none : replicate 272 false ≡ held_by []
 unfolding any_of
@@ -43,6 +46,11 @@ held_none = sym table_none
 pub held_more : (l : List Entry) (e : Entry) (p : ℕ) → p ≡ place_of e → p < 272 → set (held_by l) p true ≡ held_by (l ++ (e ∷ []))
 unfolding at
 held_more l e p z h = table_mark (λ q. any_of (at q) l) p h ∙ rw z (λ i. place_table (λ q. sym (any_snoc (at q) l e) i))
+
+-- how long a table of places is, and that it has all of them
+pub held_bytes : (s : Settings) (bytes : List ℕ) (es : List Entry) → limits s ≡ true → flags bytes ≡ held_by es → places s ≤ 8 * length bytes
+held_bytes s bytes es l e =
+    omega (arith, length_flags bytes, ap length e, length_table (λ q. any_of (at q) es), places_most s (limits_within s l))
 
 module _ (n : ℕ) (xs : List ℕ) (i : ℕ) (h : i < n) where
   -- row i is marked, or not
@@ -69,40 +77,10 @@ module _ (n : ℕ) (xs : List ℕ) (i : ℕ) (h : i < n) where
 
 -- Rows of places.
 
-module _ (s : Settings) (w : ℕ) (N : Tick) (xs : List ℕ) (q : ℕ) where
-  pub rested_free : column 0 (row (places_at s) place_row q xs) ≡ 0 → true ≡ not (resting s w N xs q)
-  unfolding column place_row_at retired
-  rested_free e = rw e
-
-  pub rested_long : (column 0 (row (places_at s) place_row q xs) ≡ 0 → ⊥) → (b : Bool) (t : ℕ) → t ≡ column 1 (row (places_at s) place_row q xs)
-      → b ≡ Ages.reusable w (tick t) N → b ≡ not (resting s w N xs q)
-  unfolding column place_row_at retired retired_at
-  rested_long ne b t z e = e ∙ rw (z, ne_eqb (column 0 (row (places_at s) place_row q xs)) 0 ne) (twice (Ages.reusable w (retired_at s xs q) N))
-    where
-      twice : (a : Bool) → a ≡ not (not a)
-      twice true = refl
-      twice false = refl
-
-  -- the three rows that a place can have
-  pub after_retired : (a : ℕ) → lay (lay xs a (bytes32 1)) (a + 4) (bytes32 N.0) ≡ lay xs a (row_after s w N true xs q)
-  unfolding row_after retired_row
-  after_retired a = lay_next xs a (bytes32 1) (bytes32 N.0) (a + 4) (omega (arith, length_bytes 4 1))
-
-  pub after_freed : (a : ℕ) → true ≡ not (resting s w N xs q) → lay xs a (replicate place_row 0) ≡ lay xs a (row_after s w N false xs q)
-  unfolding row_after
-  after_freed a e = go (resting s w N xs q) e
-    where
-      go : (b : Bool) → true ≡ not b → lay xs a free_row ≡ lay xs a (if_then b (place_row_at s xs q) free_row)
-      go true e = let z : ◌≡◌ {A = ℕ} 0 1 = cc in absurd (omega arith)
-      go false e = refl
-
-  pub after_resting : false ≡ not (resting s w N xs q) → xs ≡ lay xs (places_at s + q * place_row) (row_after s w N false xs q)
-  unfolding row_after place_row_at row
-  after_resting e = go (resting s w N xs q) e
-    where
-      go : (b : Bool) → false ≡ not b → xs ≡ lay xs (places_at s + q * place_row) (if_then b (place_row_at s xs q) free_row)
-      go true e = sym (lay_part xs (places_at s + q * place_row) place_row)
-      go false e = let z : ◌≡◌ {A = ℕ} 0 1 = cc in absurd (omega arith)
+-- a retired place's two numbers make its row
+pub after_retired : (xs : List ℕ) (N : Tick) (a : ℕ) → lay (lay xs a (bytes32 1)) (a + 4) (bytes32 N.0) ≡ lay xs a (retired_row N)
+unfolding retired_row
+after_retired xs N a = lay_next xs a (bytes32 1) (bytes32 N.0) (a + 4) (omega (arith, length_bytes 4 1))
 
 -- All rows of places, up to place q.
 

@@ -2,6 +2,7 @@
 pub mod Changed
 pub mod Fits
 pub mod Flagged
+pub mod Numbers
 pub mod Placed
 pub mod Renewed
 pub mod Search

@@ -11,7 +11,8 @@ ghost use Rattle.sidefile.specs.inner.Passed.{most_front};
 ghost use Rattle.listing.specs.Text.{listing, most_text};
 ghost use Rattle.listing.specs.inner.Written.{Written};
 
-use sidefile::{headers, judge, layout, wide};
+use sidefile::layout;
+use text::Text;
 
 // How long a text gets: a first line of at most 50 bytes and 144 lines of at most 33.
 pub const MOST_TEXT: usize = 4802;
@@ -22,14 +23,9 @@ pub fn list(s: &[u8], n: usize, out: &mut [u8]) -> usize
     requires { (min n most_front ≤ length s.now) × (most_text ≤ length out.old) }
     ensures { Written out.old 0 (listing n s.now) out.new result × (result ≤ most_text) }
 {
-    let number = judge::judge_whole(s, n);
-    let damaged = number != 0;
-    if damaged {
-        return lines::put_refused(out, number);
-    }
-    let header = headers::header_of(s);
-    let at = lines::put_head(out, header);
-    lines::put_entries(out, at, s, wide(header.entries))
+    let mut text = Text { out, end: 0 };
+    text.listing(s, n);
+    text.end
 }
 
 // The listing of a file of `total` bytes, of which the first stand in `kept`: as many as there are and as it has room for.
@@ -37,6 +33,5 @@ pub fn list_kept(kept: &[u8], total: usize, out: &mut [u8]) -> usize
     requires { (most_front ≤ length kept.now) × (most_text ≤ length out.old) }
     ensures { Written out.old 0 (listing total (take (min total most_front) kept.now)) out.new result × (result ≤ most_text) }
 {
-    let n = input::least(total, layout::MOST_FRONT);
-    list(&kept[..n], total, out)
+    list(&kept[..total.min(layout::MOST_FRONT)], total, out)
 }

@@ -1,42 +1,51 @@
-// Text written into lent bytes at `at`: a byte, a word, a number in decimal. Each answers where its text ends.
-ghost use Rattle.std.specs.Prelude.{◌≡◌, [], ◌∷◌, ◌++◌, ◌+◌, ◌≤◌, ◌<◌, length};
+// Text that is written into lent bytes, piece behind piece.
+ghost use Rattle.std.specs.Prelude.{[], ◌∷◌, ◌++◌, ◌+◌, length};
 ghost use Rattle.listing.specs.Decimal.{decimal};
-ghost use Rattle.listing.specs.inner.Written.{Written};
+ghost use Rattle.listing.specs.inner.Written.{Room, Adds};
 
-pub fn put_byte(out: &mut [u8], at: usize, b: u8) -> usize
-    requires { at < length out.old }
-    ensures { Written out.old at (b ∷ []) out.new result }
-{
-    out[at] = b;
-    at + 1
+// The next piece goes to byte `end`.
+#[derive(Drop)]
+pub struct Text<'a> {
+    pub out: &'a mut [u8],
+    pub end: usize,
 }
 
-pub fn put(out: &mut [u8], at: usize, word: &[u8]) -> usize
-    requires { at + length word.now ≤ length out.old }
-    ensures { Written out.old at word.now out.new result }
-{
-    octets::copy(word, 0, out, at, word.len());
-    at + word.len()
-}
-
-// A number, for which there is room for ten digits. Those before the last come first, by a call of its own.
-pub fn put_decimal(out: &mut [u8], at: usize, v: u32) -> usize
-    requires { at + 10 ≤ length out.old }
-    ensures { Written out.old at (decimal v) out.new result × (result ≤ at + 10) }
-{
-    let one_digit = v < 10;
-    if one_digit {
-        return put_byte(out, at, b'0' + v as u8);
+impl Text<'_> {
+    pub fn byte(&mut self, b: u8)
+        requires { Room self.old 1 }
+        ensures { Adds self.old (b ∷ []) 1 self.new }
+    {
+        self.out[self.end] = b;
+        self.end += 1;
     }
-    let end = put_decimal(out, at, v / 10);
-    put_byte(out, end, b'0' + (v % 10) as u8)
-}
 
-// A word and a number.
-pub fn put_after(out: &mut [u8], at: usize, word: &[u8], v: u32) -> usize
-    requires { at + length word.now + 10 ≤ length out.old }
-    ensures { Written out.old at (word.now ++ decimal v) out.new result × (result ≤ at + length word.now + 10) }
-{
-    let end = put(out, at, word);
-    put_decimal(out, end, v)
+    pub fn word(&mut self, word: &[u8])
+        requires { Room self.old (length word.now) }
+        ensures { Adds self.old word.now (length word.now) self.new }
+    {
+        octets::copy(word, 0, self.out, self.end, word.len());
+        self.end += word.len();
+    }
+
+    // A number, for which there is room for ten digits. Those before the last come first, by a call of its own.
+    // By hand: of the library's `write!` into lent bytes no contract says when it succeeds, and a listing is always whole.
+    pub fn number(&mut self, v: u32)
+        requires { Room self.old 10 }
+        ensures { Adds self.old (decimal v) 10 self.new }
+    {
+        let one_digit = v < 10;
+        if !one_digit {
+            self.number(v / 10);
+        }
+        self.byte(b'0' + (v % 10) as u8);
+    }
+
+    // A word and a number.
+    pub fn after(&mut self, word: &[u8], v: u32)
+        requires { Room self.old (length word.now + 10) }
+        ensures { Adds self.old (word.now ++ decimal v) (length word.now + 10) self.new }
+    {
+        self.word(word);
+        self.number(v);
+    }
 }

@@ -1,4 +1,5 @@
 pub mod Below
 pub mod Bools
+pub mod Options
 pub mod Scans
 pub mod laws

@@ -1,22 +1,20 @@
 -- A planned close carried out: its arrays are the new entries, the ledger can be renewed by them, and what is copied and
 -- written is what the close is defined to store. Assumes nothing.
-use Prim.Native.Nat.{ℕ, ◌+◌, ◌*◌, ◌<◌, ◌≤◌}
-use mathlib.Core.Path.{◌≡◌, refl, ◌∙◌, sym, ap}
-use mathlib.Core.Bool.{true}
-use mathlib.Core.List.{List, [], ◌∷◌, map}
-use mathlib.Core.Option.{Option, some, none}
-use native.Mathlib.Omega.{arith}
-use lib.ListN.{length, take}
+use Rattle.std.proofs.Common.{ℕ, ◌+◌, ◌*◌, ◌<◌, ◌≤◌, ◌≡◌, refl, ◌∙◌, sym, ap, true, List, [], ◌∷◌, map, length, take, arith}
+use Rattle.std.proofs.Math.Option.{Option, some, none}
 use Rattle.lists.specs.Below.{below}
 use Rattle.lists.specs.laws.Below.{every_from}
 use Rattle.lists.specs.laws.Maps.{every_take}
-use Rattle.lists.specs.Scans.{Every}
-use Rattle.lists.specs.laws.Scans.{every_map, every_keep}
+use Rattle.lists.specs.Scans.{Every, done, more}
+use Rattle.lists.specs.laws.Scans.{head, tail, every_map, every_keep}
+use Rattle.octets.specs.inner.Flags.{flags}
 use Rattle.octets.specs.Number.{Octets}
 use Rattle.octets.specs.Part.{lay}
 use Rattle.octets.specs.laws.Part.{length_lay}
 use Rattle.units.specs.laws.Bounds.{Within, limits_within, entries_most, places_most, first_image_least}
 use Rattle.units.specs.Sizes.{top, entry_row, header_length, limits, entries, places, index_end, side_length, places_at, ledger_length}
+use Rattle.units.specs.inner.Pages.{numbers_of}
+use Rattle.units.specs.declared.Place.{Place}
 use Rattle.units.specs.declared.Tick.{Tick}
 use Rattle.sidefile.specs.laws.Decode.{checksum_below}
 use Rattle.sidefile.specs.Encode.{image_sum, header_for, index_bytes}
@@ -37,10 +35,9 @@ use Rattle.recorder.specs.inner.Carried.{Carries, Carried}
 use Rattle.recorder.specs.Close.{open_tick, changes, free_places, given, fresh_entries, staying, after, front_stores, to_side, ledger_after, closed}
 use Rattle.recorder.specs.laws.Closed.{closing_of, fresh_new, after_later, due_of_lem, enough}
 use Rattle.recorder.specs.laws.Facts.{RuleFacts, rule_facts}
-use Rattle.recorder.specs.inner.Handed.{shown}
-use Rattle.recorder.specs.inner.Planned.{Lists}
+use Rattle.recorder.specs.inner.Copies.{shown, images_laid, image_sums, due_laid}
 use Rattle.recorder.specs.laws.Stored.{image_start, held_bytes, imaged, front_laid, side_stored, base_stored}
-use Rattle.recorder.specs.inner.Stretches.{images_laid, image_sums, due_laid}
+use Rattle.recorder.specs.declared.plan.Plan.{Plan}
 use Rattle.recorder.specs.World.{World, slot_count, entries_of, slot_bytes, slot_for, bytes_at, bytes_in}
 
 each_map : {A B : Type 0} (at : B → ℕ) (b : B → List ℕ) (g : A → B) (l : List A) (xs : List ℕ) → lay_each at b (map g l) xs ≡ lay_each (λ x. at (g x)) (λ x. b (g x)) l xs
@@ -48,9 +45,14 @@ unfolding lay_each
 each_map at b g [] xs = refl
 each_map at b g (x ∷ l) xs = each_map at b g l (lay xs (at (g x)) (b (g x)))
 
+-- what holds of the numbers of places holds of the places
+every_number : {P : ℕ → Type 0} (l : List Place) → Every P (map (λ q. q.0) l) → Every (λ q. P q.0) l
+every_number [] e = done
+every_number (q ∷ l) e = more (head e) (every_number l (tail e))
+
 -- what the copies look at
 abbrev pub held : World → World
-held w = shown w.state.settings w.state.slots.pages w.buffer
+held w = shown w.state w.buffer
 
 held_same : (w : World) → bytes_in (held w) ≡ bytes_in w
 unfolding bytes_in slot_for slot_of page_at slot_bytes
@@ -61,33 +63,27 @@ held_same w = λ i p. one (slot_of (slot_count w) w.state.slots p) i
     one (some j) = refl
 
 -- the new entries of a plan with these checksums
-abbrev pub fresh_for : Tick → Lists → List ℕ → List Entry
+abbrev pub fresh_for : Tick → Plan → List ℕ → List Entry
 fresh_for N p sums = fresh_of N p.pages p.places sums p.entered p.count
 
 -- what is known once the checksums are there: the ledger is of bytes, and these are the checksums of the new images
-pub record Summed (w : World) (N : Tick) (p : Lists) (sums : List ℕ) : Type 0 where
+pub record Summed (w : World) (N : Tick) (p : Plan) (sums : List ℕ) : Type 0 where
   pub carries : Carries w N p
   pub octets : Octets w.ledger
-  pub made : take p.count sums ≡ image_sums (held w) (take p.count p.pages)
+  pub made : take p.count sums ≡ image_sums (held w) (numbers_of p.count p.pages)
 
 -- once the rows that are going have left the ledger: how many stay, and its bytes
-pub record Left (w : World) (N : Tick) (p : Lists) (kept : ℕ) (ledger : List ℕ) : Type 0 where
-  pub count : kept ≡ length (others p.going (entries_in w.state.entries w.ledger))
-  pub bytes : ledger ≡ lay w.ledger 0 (settled w.state.settings w.ledger w.state.entries p.going N)
-
-pub left_by : (w : World) (N : Tick) (p : Lists) (n : ℕ) → n ≡ w.state.entries
-    → (kept : ℕ) → kept ≡ length (others p.going (entries_in n w.ledger))
-    → (ledger : List ℕ) → ledger ≡ lay w.ledger 0 (settled w.state.settings w.ledger n p.going N)
-    → Left w N p kept ledger
-left_by w N p n e kept c ledger b = record { count = rw e at c; bytes = rw e at b }
+pub record Left (w : World) (N : Tick) (p : Plan) (kept : ℕ) (ledger : List ℕ) : Type 0 where
+  pub count : kept ≡ length (others (flags p.going) (entries_in w.state.entries w.ledger))
+  pub bytes : ledger ≡ lay w.ledger 0 (settled w.state.settings w.ledger w.state.entries (flags p.going) N)
 
 -- and once it is renewed: how many entries there are, and its bytes
-pub record Anew (w : World) (N : Tick) (p : Lists) (sums : List ℕ) (n : ℕ) (ledger : List ℕ) : Type 0 where
+pub record Anew (w : World) (N : Tick) (p : Plan) (sums : List ℕ) (n : ℕ) (ledger : List ℕ) : Type 0 where
   pub summed : Summed w N p sums
-  pub count : n ≡ length (later_in w.ledger w.state.entries p.going (fresh_for N p sums))
-  pub bytes : ledger ≡ lay w.ledger 0 (renewed w.state.settings w.ledger w.state.entries p.going (fresh_for N p sums) N)
+  pub count : n ≡ length (later_in w.ledger w.state.entries (flags p.going) (fresh_for N p sums))
+  pub bytes : ledger ≡ lay w.ledger 0 (renewed w.state.settings w.ledger w.state.entries (flags p.going) (fresh_for N p sums) N)
 
-module _ {w : World} {N : Tick} {p : Lists} (k : Carries w N p) where
+module _ {w : World} {N : Tick} {p : Plan} (k : Carries w N p) where
   facts : RuleFacts w
   facts = rule_facts w k.closes.plans.0
 
@@ -103,28 +99,25 @@ module _ {w : World} {N : Tick} {p : Lists} (k : Carries w N p) where
   room : (length (changes w) ≤ length (free_places w)) × (length (after w) ≤ entries w.state.settings)
   room = enough w k.enough
 
-  -- rows can leave the ledger, and each has a flag
+  -- rows can leave the ledger, and there are flags for them
   pub can_settle : Settles w.state.settings w.ledger w.state.entries
   unfolding entries_of
   can_settle =
       settles w.state.settings w.ledger w.state.entries limited facts.ledger_long facts.counted
       (every_map (λ e f. f.place_below) (entries_of w) facts.each)
 
-  pub flags_enough : w.state.entries ≤ length p.going
-  flags_enough = omega (arith, facts.counted, entries_most w.state.settings within, k.planned.whole_going)
+  pub rows_few : w.state.entries ≤ 144
+  rows_few = omega (arith, facts.counted, entries_most w.state.settings within)
 
   -- the images go into places
-  pub places_below : Every (λ q. q < places w.state.settings) (take p.count p.places)
+  pub places_below : Every (λ q. q.0 < places w.state.settings) (take p.count p.places)
   unfolding free_places
   places_below =
-      rw (k.planned.placed k.enough)
+      every_number (take p.count p.places)
+      (rw (k.planned.placed k.enough)
       (every_take p.count (free_places w)
       (every_map (λ q h. omega (arith, h.1.1)) (free_places w)
-      (every_keep _ (below (places w.state.settings)) (every_from 0 (places w.state.settings)))))
-
-  -- how many entries there are then has 32 bits
-  pub few_closed : (n : ℕ) → n ≡ length (after w) → n < 4294967296
-  few_closed n e = omega (arith, room.1, entries_most w.state.settings within)
+      (every_keep _ (below (places w.state.settings)) (every_from 0 (places w.state.settings))))))
 
   -- the numbers of entries have 32 bits
   sums_small : (q : ℕ) → image_sum (to_page q) (bytes_in w q) ≤ top
@@ -137,7 +130,7 @@ module _ {w : World} {N : Tick} {p : Lists} (k : Carries w N p) where
   places_small : places w.state.settings ≤ top
   places_small = omega (arith, places_most w.state.settings within)
 
-module _ {w : World} {N : Tick} {p : Lists} {sums : List ℕ} (m : Summed w N p sums) where
+module _ {w : World} {N : Tick} {p : Plan} {sums : List ℕ} (m : Summed w N p sums) where
   k : Carries w N p
   k = m.carries
 
@@ -160,11 +153,11 @@ module _ {w : World} {N : Tick} {p : Lists} {sums : List ℕ} (m : Summed w N p 
   smalls = small_entries_in w.state.entries w.ledger m.octets
 
   -- the ledger can be renewed
-  can_renew : Renews w.state.settings w.ledger w.state.entries p.going (fresh_for N p sums) p.count
+  can_renew : Renews w.state.settings w.ledger w.state.entries (flags p.going) (fresh_for N p sums) p.count
   unfolding entries_of
   can_renew =
       rw fresh_made
-      (renews (closing_of w) w.state.entries refl p.going k.planned.gone (can_settle k) (facts k).ascends p.count k.planned.most made_count (rw (← after_later w) (room k).1)
+      (renews (closing_of w) w.state.entries refl (flags p.going) k.planned.gone (can_settle k) (facts k).ascends p.count k.planned.most made_count (rw (← after_later w) (room k).1)
       (small_new (closing_of w) (omega (arith, k.closes.low)) (end_small k) (places_small k) (sums_small k) smalls))
 
   -- and is, by new entries put in once the others have left it
@@ -174,12 +167,12 @@ module _ {w : World} {N : Tick} {p : Lists} {sums : List ℕ} (m : Summed w N p 
 
     pub can_put : Puts ledger kept (fresh_for N p sums) p.count
     can_put =
-        settled_puts w.state.settings w.ledger w.state.entries p.going N (fresh_for N p sums) p.count can_renew m.octets count_made ledger l.bytes kept l.count
+        settled_puts w.state.settings w.ledger w.state.entries (flags p.going) N (fresh_for N p sums) p.count can_renew m.octets count_made ledger l.bytes kept l.count
 
     pub put_anew : (n : ℕ) → n ≡ kept + p.count → (ledger' : List ℕ) → ledger' ≡ lay ledger 0 (rows_of (put_all (fresh_for N p sums) (entries_in kept ledger))) → Anew w N p sums n ledger'
     put_anew n c ledger' b =
         let d =
-        settled_renewed w.state.settings w.ledger w.state.entries p.going N (fresh_for N p sums) p.count can_renew m.octets count_made ledger l.bytes kept l.count in
+        settled_renewed w.state.settings w.ledger w.state.entries (flags p.going) N (fresh_for N p sums) p.count can_renew m.octets count_made ledger l.bytes kept l.count in
         record { summed = m; count = c ∙ d.0; bytes = b ∙ d.1 }
 
   images_made : images_laid (held w) p.pages p.places p.count w.side ≡ imaged w
@@ -189,20 +182,20 @@ module _ {w : World} {N : Tick} {p : Lists} {sums : List ℕ} (m : Summed w N p 
       (sym (each_map (image_start w) (held_bytes w) (fresh_at N p.pages p.places sums p.entered) (below p.count) w.side)
       ∙ ap (λ (es : List Entry). lay_each (image_start w) (held_bytes w) es w.side) (fresh_made ∙ sym (fresh_new w)))
 
-module _ {w : World} {N : Tick} {p : Lists} {sums : List ℕ} {n : ℕ} {ledger : List ℕ} (r : Anew w N p sums n ledger) where
+module _ {w : World} {N : Tick} {p : Plan} {sums : List ℕ} {n : ℕ} {ledger : List ℕ} (r : Anew w N p sums n ledger) where
   c : Carries w N p
   c = r.summed.carries
 
   count_after : n ≡ length (after w)
   unfolding entries_of
   count_after =
-      r.count ∙ rw (fresh_made r.summed) (ap length (later_in_lem (closing_of w) w.state.entries refl p.going c.planned.gone)) ∙ ap length (sym (after_later w))
+      r.count ∙ rw (fresh_made r.summed) (ap length (later_in_lem (closing_of w) w.state.entries refl (flags p.going) c.planned.gone)) ∙ ap length (sym (after_later w))
 
   ledger_after_lem : ledger ≡ (closed w).ledger
   unfolding entries_of closed ledger_after after fresh_entries given changes free_places staying
   ledger_after_lem =
       r.bytes
-      ∙ rw (fresh_made r.summed, ticked c) (renewed_later (closing_of w) w.state.entries refl p.going c.planned.gone (places_most w.state.settings (within c)))
+      ∙ rw (fresh_made r.summed, ticked c) (renewed_later (closing_of w) w.state.entries refl (flags p.going) c.planned.gone (places_most w.state.settings (within c)))
 
   read_after : entries_in n ledger ≡ after w
   unfolding closed ledger_after after fresh_entries given changes free_places staying
@@ -214,10 +207,14 @@ module _ {w : World} {N : Tick} {p : Lists} {sums : List ℕ} {n : ℕ} {ledger 
   pub few_after : n ≤ entries w.state.settings
   few_after = omega (arith, count_after, (room c).1)
 
+  -- it has 32 bits
+  pub fits_after : n < 4294967296
+  fits_after = omega (arith, few_after, entries_most w.state.settings (within c))
+
   pub long_after : n * entry_row ≤ length ledger
   unfolding ledger_length places_at
   long_after =
-      omega (arith, few_after, (facts c).ledger_long, ap length r.bytes, length_lay w.ledger 0 (renewed w.state.settings w.ledger w.state.entries p.going (fresh_for N p sums) N))
+      omega (arith, few_after, (facts c).ledger_long, ap length r.bytes, length_lay w.ledger 0 (renewed w.state.settings w.ledger w.state.entries (flags p.going) (fresh_for N p sums) N))
 
   pub pages_after : Every (λ e. page_of e < w.state.settings.capacity) (entries_in n ledger)
   pages_after =

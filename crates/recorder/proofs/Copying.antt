@@ -1,23 +1,18 @@
--- The copies of a close, one turn of their loops at a time: a stretch of the page buffer laid over a file, an image and its
--- checksum more, a due page more. Assumes nothing.
-use Prim.Native.Nat.{ℕ, ◌+◌, ◌*◌, ◌<◌, ◌≤◌}
-use mathlib.Core.Path.{◌≡◌, refl, ◌∙◌, sym, ap, subst}
-use mathlib.Core.Bool.{Bool, true, false}
-use mathlib.Core.List.{List, [], ◌∷◌, ◌++◌}
-use mathlib.Core.Option.{some, none}
-use native.Mathlib.Numerals.{add-one}
-use native.Mathlib.Omega.{arith}
-use lib.ListN.{length, take, drop, set, get_or}
-use lib.Seq.{take-suc, take-suc-set, get_or-take, length-take-le}
+-- The copies of a close, one turn of their loops at a time: a page's bytes in the page buffer, an image and its checksum more, a
+-- due page more. Assumes nothing.
+use Rattle.std.proofs.Common.{ℕ, ◌+◌, ◌*◌, ◌<◌, ◌≤◌, ◌≡◌, refl, ◌∙◌, sym, ap, subst, Bool, true, false, List, [], ◌∷◌, ◌++◌, length, take, drop, get_or, arith, add-one, take-suc, take_all, length-take}
+use Rattle.std.proofs.Math.Option.{Option, some, none}
+use Rattle.std.proofs.Math.ListN.{set}
+use Rattle.std.proofs.Math.Seq.{take-suc-set, get_or-take, length-take-le}
 use Rattle.lists.specs.Below.{from, below}
 use Rattle.lists.specs.laws.Maps.{map_append, every_get}
 use Rattle.lists.specs.laws.Passes.{below_snoc}
 use Rattle.lists.specs.Scans.{Every, keep}
-use Rattle.octets.specs.Part.{part, lay}
-use Rattle.octets.specs.laws.Part.{length_lay}
 use Rattle.lookup3.specs.Hash.{hashlittle}
+use Rattle.octets.specs.Part.{part, lay}
 use Rattle.octets.specs.Rows.{row}
 use Rattle.octets.specs.laws.Rows.{row_in}
+use Rattle.units.specs.inner.Pages.{numbers_of}
 use Rattle.units.specs.laws.Bounds.{limits_within, pages_most}
 use Rattle.units.specs.Sizes.{entry_row, limits, wait, places, image_at, buffer_length, side_length, base_length}
 use Rattle.units.specs.declared.Page.{Page}
@@ -25,70 +20,73 @@ use Rattle.units.specs.declared.Place.{Place}
 use Rattle.units.specs.declared.Settings.{Settings}
 use Rattle.units.specs.declared.Tick.{Tick}
 use Rattle.sidefile.specs.Encode.{image_sum, checksum}
-use Rattle.slots.specs.inner.Numbers.{table_of}
+use Rattle.slots.specs.inner.Lent.{table_of}
 use Rattle.slots.specs.laws.Sits.{slot_found}
-use Rattle.slots.specs.Table.{to_page, slot_of, page_at}
+use Rattle.slots.specs.Table.{slot_of, page_at}
 use Rattle.ledger.specs.Entries.{page_of}
 use Rattle.ledger.specs.laws.Laid.{lay_each}
-use Rattle.ledger.specs.laws.Read.{entry_next, entries_end}
+use Rattle.ledger.specs.laws.Read.{entry_next, every_row, entries_end}
 use Rattle.ledger.specs.inner.Renewed.{is_due_now}
 use Rattle.ledger.specs.View.{entry_of, entries_in}
 use Rattle.ledger.specs.declared.Entry.{Entry}
-use Rattle.recorder.specs.inner.Handed.{shown}
-use Rattle.recorder.specs.inner.Stretches.{stretch_at, stretch_for, images_laid, image_sums, due_laid, stretch_held, stretch_in, stretch_short}
-use Rattle.recorder.specs.World.{World, slot_for, bytes_in}
-use Rattle.recorder.specs.declared.stores.Stretch.{Stretch}
+use Rattle.recorder.specs.inner.Copies.{shown, images_laid, image_sums, due_laid}
+use Rattle.recorder.specs.World.{World, slot_bytes, slot_for, bytes_at, bytes_in}
+use Rattle.recorder.specs.declared.State.{State}
 
--- what the search for a page's slot gives: its stretch
-module _ (s : Settings) (seats : List Page) (p size slots : ℕ) (z : size ≡ s.size) (n : slots ≡ s.slots) where
-  pub stretch_found : (i : ℕ) → slot_of slots (table_of seats []) p ≡ some i → stretch_at size (some i) ≡ stretch_for (shown s seats []) p
-  unfolding stretch_for slot_for slot_of page_at
-  stretch_found i e = rw (z, sym e, n)
+pub slots_few : (s : State) → limits s.settings ≡ true → s.settings.slots ≤ 16
+slots_few s l = (limits_within s.settings l).slots_most
 
-  pub stretch_none : slot_of slots (table_of seats []) p ≡ none → stretch_at 0 none ≡ stretch_for (shown s seats []) p
-  unfolding stretch_for stretch_at slot_for slot_of page_at
-  stretch_none e = ap (stretch_at s.size) (sym e) ∙ rw n
+-- what the search for a page's slot gives
+module _ (s : State) (p : ℕ) where
+  module _ (i : ℕ) (e : some i ≡ slot_of s.settings.slots (table_of s.slots.pages []) p) where
+    low : i * s.settings.size + s.settings.size ≤ s.settings.slots * s.settings.size
+    low = row_in s.settings.size i s.settings.slots (slot_found s.settings.slots (table_of s.slots.pages []) p i (sym e)).0
 
-  pub stretch_fits : limits s ≡ true → (i : ℕ) → slot_of slots (table_of seats []) p ≡ some i → i * size ≤ 65536
-  stretch_fits l i e =
-      let w = limits_within s l in
-      rw z (pages_most s w i 16 (omega (arith, (slot_found slots (table_of seats []) p i e).0, w.slots_most)))
+    pub slot_within : (buffer : List ℕ) → buffer_length s.settings ≤ length buffer → i * s.settings.size + s.settings.size ≤ length buffer
+    unfolding buffer_length
+    slot_within buffer h = omega (arith, h, low)
 
--- what is copied: the answer to where a page lies, and the page buffer
-module _ (s : Settings) (seats : List Page) (buffer : List ℕ) (p : ℕ) (r : Stretch) (e : r ≡ stretch_for (shown s seats []) p) where
-  pub copied : part buffer r.start r.length ≡ bytes_in (shown s seats buffer) p
-  unfolding stretch_for slot_for
-  copied = ap (λ (x : Stretch). part buffer x.start x.length) e ∙ stretch_held (shown s seats buffer) p
+    pub slot_most : limits s.settings ≡ true → i * s.settings.size + s.settings.size ≤ 65536
+    slot_most l =
+        let w = limits_within s.settings l in
+        omega (arith, low, pages_most s.settings w s.settings.slots 16 w.slots_most)
 
-  copied_short : r.length ≤ s.size
-  copied_short = omega (arith, ap (λ (x : Stretch). x.length) e, stretch_short (shown s seats []) p)
+    pub held_some : (buffer : List ℕ) (k : ℕ) → k ≡ s.settings.size → take k (drop (i * s.settings.size) buffer) ≡ bytes_in (shown s buffer) p
+    unfolding bytes_in slot_for slot_of page_at slot_bytes row part
+    held_some buffer k h = let a : 0 + i * s.settings.size ≡ i * s.settings.size = omega arith in rw (h, ← e, a)
 
-  pub copied_in : buffer_length s ≤ length buffer → r.start + r.length ≤ length buffer
-  unfolding buffer_length
-  copied_in h = omega (arith, ap (λ (x : Stretch). x.length) e, ap (λ (x : Stretch). x.start) e, stretch_in (shown s seats []) p)
+  pub held_none : (buffer : List ℕ) → none ≡ slot_of s.settings.slots (table_of s.slots.pages []) p → [] ≡ bytes_in (shown s buffer) p
+  unfolding bytes_in slot_for slot_of page_at
+  held_none buffer e = rw (← e)
 
-  pub copied_most : limits s ≡ true → r.start + r.length ≤ 65536
-  copied_most l =
-      let w = limits_within s l in
-      omega (arith, ap (λ (x : Stretch). x.length) e, ap (λ (x : Stretch). x.start) e, stretch_in (shown s seats []) p, pages_most s w s.slots 16 w.slots_most)
+-- a page's bytes are at most a page long
+module _ (s : State) (buffer : List ℕ) (p : ℕ) where
+  held_short : length (bytes_in (shown s buffer) p) ≤ s.settings.size
+  unfolding bytes_in slot_bytes row part
+  held_short = go (slot_for (shown s buffer) p)
+    where
+      go : (o : Option ℕ) → length (bytes_at (shown s buffer) o) ≤ s.settings.size
+      go none = omega arith
+      go (some i) = simp length-take (omega arith)
 
-  -- its checksum
-  pub copied_sum : (n : ℕ) → n ≡ r.length → (v : ℕ) → v ≡ hashlittle (take n (drop r.start buffer)) 0 → v ≡ checksum (bytes_in (shown s seats buffer) p)
-  unfolding checksum part
-  copied_sum n k v h = h ∙ ap (λ (i : ℕ). hashlittle (take i (drop r.start buffer)) 0) k ∙ ap (λ (l : List ℕ). hashlittle l 0) copied
-
-  -- it goes into place q of the side file, and over page k of the base
-  pub place_in : (xs : List ℕ) (at : ℕ) (q : Place) → at ≡ image_at s q → side_length s ≤ length xs → q.0 < places s → at + r.length ≤ length xs
+-- where they are copied to: place q of the side file, page k of the base
+module _ (s : State) (buffer : List ℕ) (p : ℕ) (bytes : List ℕ) (e : bytes ≡ bytes_in (shown s buffer) p) where
+  pub place_in : (xs : List ℕ) (at : ℕ) (q : Place) → at ≡ image_at s.settings q → side_length s.settings ≤ length xs → q.0 < places s.settings → at + length bytes ≤ length xs
   unfolding side_length image_at
-  place_in xs at q a h b = omega (arith, copied_short, row_in s.size q.0 (places s) b)
+  place_in xs at q a h b = omega (arith, ap length e, held_short s buffer p, row_in s.settings.size q.0 (places s.settings) b)
 
-  pub page_in : (xs : List ℕ) (k' k size : ℕ) → k' ≡ k → size ≡ s.size → base_length s ≤ length xs → k < s.capacity → k' * size + r.length ≤ length xs
+  -- over the page of row i
+  pub page_in : (xs : List ℕ) (n : ℕ) (ledger : List ℕ) (i : ℕ) (e : Entry) → page_of e ≡ p → e ≡ entry_of (row 0 entry_row i ledger) → i < n
+      → Every (λ e. page_of e < s.settings.capacity) (entries_in n ledger) → base_length s.settings ≤ length xs → page_of e * s.settings.size + length bytes ≤ length xs
   unfolding base_length
-  page_in xs k' k size a z h b = rw (a, z) (omega (arith, copied_short, row_in s.size k s.capacity b))
+  page_in xs n ledger i x q r l h b =
+      let low : page_of x < s.settings.capacity = rw r (every_row n ledger i l h) in
+      omega (arith, ap length e, held_short s buffer p, row_in s.settings.size (page_of x) s.settings.capacity low)
 
--- where page k of the base begins
-pub page_most : (s : Settings) → limits s ≡ true → (k' k size : ℕ) → k' ≡ k → size ≡ s.size → k < s.capacity → k' * size ≤ 268431360
-page_most s l k' k size a z b = let w = limits_within s l in rw (a, z) (pages_most s w k 65535 (omega (arith, b, w.capacity_most)))
+-- all of a list is a part of it
+part_whole : (xs : List ℕ) → part xs 0 (length xs) ≡ xs
+unfolding part
+part_whole xs = take_all (length xs) xs (omega arith)
 
 -- one more thing laid
 each_snoc : {A : Type 0} (at : A → ℕ) (b : A → List ℕ) (l : List A) (x : A) (xs : List ℕ) → lay_each at b (l ++ (x ∷ [])) xs ≡ lay (lay_each at b l xs) (at x) (b x)
@@ -96,39 +94,36 @@ unfolding lay_each
 each_snoc at b [] x xs = refl
 each_snoc at b (y ∷ l) x xs = each_snoc at b l x (lay xs (at y) (b y))
 
-module _ (w : World) (pages places' : List ℕ) where
-  pub images_none : (xs : List ℕ) → images_laid w pages places' 0 xs ≡ xs
+-- the image of page j laid at its place
+module _ (w : World) (pages : List Page) (places' : List Place) where
+  pub images_none : (xs : List ℕ) → xs ≡ images_laid w pages places' 0 xs
   unfolding images_laid lay_each from
   images_none xs = refl
 
-  images_next : (j : ℕ) (xs : List ℕ)
-      → lay (images_laid w pages places' j xs) (image_at w.state.settings (record { 0 = get_or places' j 0 })) (bytes_in w (get_or pages j 0)) ≡ images_laid w pages places' (j + 1) xs
+  pub images_next : (j : ℕ) (xs ys zs : List ℕ) → ys ≡ images_laid w pages places' j xs
+      → (at : ℕ) → at ≡ image_at w.state.settings (get_or places' j (record { 0 = 0 }))
+      → (bytes : List ℕ) → bytes ≡ bytes_in w (get_or pages j (record { 0 = 0 })).0
+      → zs ≡ lay ys at (part bytes 0 (length bytes)) → zs ≡ images_laid w pages places' (j + 1) xs
   unfolding images_laid
-  images_next j xs = rw (below_snoc j) (sym (each_snoc _ _ (below j) j xs))
-
--- the image of page j laid at its place
-pub image_laid : (s : Settings) (seats : List Page) (buffer pages places' : List ℕ) (j : ℕ) (r : Stretch) → r ≡ stretch_for (shown s seats []) (get_or pages j 0)
-    → (at : ℕ) → at ≡ image_at s (record { 0 = get_or places' j 0 }) → (xs ys zs : List ℕ)
-    → ys ≡ images_laid (shown s seats buffer) pages places' j xs → zs ≡ lay ys at (part buffer r.start r.length) → zs ≡ images_laid (shown s seats buffer) pages places' (j + 1) xs
-image_laid s seats buffer pages places' j r e at a xs ys zs y z =
-    z ∙ rw (y, a, copied s seats buffer (get_or pages j 0) r e) (images_next (shown s seats buffer) pages places' j xs)
+  images_next j xs ys zs y at a bytes b z = z ∙ rw (y, a, part_whole bytes, b, below_snoc j) (sym (each_snoc _ _ (below j) j xs))
 
 -- the checksum of one page more
-module _ (w : World) (pages sums : List ℕ) where
-  pub sums_none : take 0 sums ≡ image_sums w (take 0 pages)
+module _ (w : World) (pages : List Page) (sums : List ℕ) where
+  pub sums_none : [] ≡ image_sums w []
   unfolding image_sums
   sums_none = refl
 
-  pub sums_next : (j v : ℕ) → take j sums ≡ image_sums w (take j pages) → j < length sums → j < length pages
-      → v ≡ checksum (bytes_in w (get_or pages j 0)) → take (j + 1) (set sums j v) ≡ image_sums w (take (j + 1) pages)
-  unfolding image_sums image_sum
-  sums_next j v i h k e =
-      rw (add-one j, take-suc-set sums j v h, take-suc pages j 0 k, i, e)
-      (sym (map_append (λ p. image_sum (to_page p) (bytes_in w p)) (take j pages) (get_or pages j 0 ∷ [])))
+  pub sums_next : (j v : ℕ) → take j sums ≡ image_sums w (numbers_of j pages) → j < length sums → j < length pages
+      → (bytes : List ℕ) → bytes ≡ bytes_in w (get_or pages j (record { 0 = 0 })).0 → v ≡ hashlittle bytes 0
+      → take (j + 1) (set sums j v) ≡ image_sums w (numbers_of (j + 1) pages)
+  unfolding image_sums image_sum checksum
+  sums_next j v i h k bytes b e =
+      rw (add-one j, take-suc-set sums j v h, take-suc pages j (record { 0 = 0 }) k, i, e, b)
+      (simp map_append)
 
 -- place j is among the first k
-pub place_get : {P : ℕ → Type 0} (k : ℕ) (l : List ℕ) (j : ℕ) → j < k → k ≤ length l → Every P (take k l) → P (get_or l j 0)
-place_get {P} k l j h m e = subst P (get_or-take k l j 0 h) (every_get 0 j (take k l) (rw (length-take-le k l m) h) e)
+pub place_get : {P : Place → Type 0} (k : ℕ) (l : List Place) (j : ℕ) → j < k → k ≤ length l → Every P (take k l) → P (get_or l j (record { 0 = 0 }))
+place_get {P} k l j h m e = subst P (get_or-take k l j _ h) (every_get _ j (take k l) (rw (length-take-le k l m) h) e)
 
 -- row i, read and judged
 pub record Row (s : Settings) (N : Tick) (n : ℕ) (ledger : List ℕ) (i : ℕ) (e : Entry) (due : Bool) : Type 0 where
@@ -137,24 +132,30 @@ pub record Row (s : Settings) (N : Tick) (n : ℕ) (ledger : List ℕ) (i : ℕ)
   pub judged : due ≡ is_due_now (wait s) N e
 
 -- what the rows from i on still lay over the base: row i lays its page, or is not due
-module _ (s : Settings) (seats : List Page) (buffer : List ℕ) (N : Tick) (n : ℕ) (ledger : List ℕ) where
+module _ (s : State) (buffer : List ℕ) (N : Tick) (n : ℕ) (ledger : List ℕ) where
   abbrev from_row : ℕ → List ℕ → List ℕ
-  from_row i xs = due_laid (shown s seats buffer) N (drop i (entries_in n ledger)) xs
+  from_row i xs = due_laid (shown s buffer) N (drop i (entries_in n ledger)) xs
 
-  module _ {i : ℕ} {e : Entry} {due : Bool} (r : Row s N n ledger i e due) (xs ys : List ℕ) where
+  module _ {i : ℕ} {e : Entry} {due : Bool} (r : Row s.settings N n ledger i e due) (xs ys : List ℕ) where
     seen : drop i (entries_in n ledger) ≡ e ∷ drop (i + 1) (entries_in n ledger)
     seen = entry_next n ledger i r.below ∙ ap (λ (x : Entry). x ∷ drop (i + 1) (entries_in n ledger)) (sym r.read)
 
-    pub due_laid_lem : due ≡ true → (f : Stretch) → f ≡ stretch_for (shown s seats []) (page_of e) → (k size : ℕ) → k ≡ page_of e → size ≡ s.size
-        → ys ≡ lay xs (k * size) (part buffer f.start f.length) → (length ys ≡ length xs) × (from_row (i + 1) ys ≡ from_row i xs)
+    pub due_next : due ≡ true → (bytes : List ℕ) → bytes ≡ bytes_in (shown s buffer) (page_of e)
+        → ys ≡ lay xs (page_of e * s.settings.size) (part bytes 0 (length bytes)) → from_row (i + 1) ys ≡ from_row i xs
     unfolding due_laid keep lay_each
-    due_laid_lem c f fe k size ke z y =
-        (ap length y ∙ length_lay xs (k * size) (part buffer f.start f.length), rw (y, ke, z, copied s seats buffer (page_of e) f fe, seen, sym r.judged ∙ c))
+    due_next c bytes b y = rw (y, part_whole bytes, b, seen, sym r.judged ∙ c)
 
-    pub due_skip : due ≡ false → ys ≡ xs → (length ys ≡ length xs) × (from_row (i + 1) ys ≡ from_row i xs)
+    pub due_skip : due ≡ false → ys ≡ xs → from_row (i + 1) ys ≡ from_row i xs
     unfolding due_laid keep
-    due_skip c y = (ap length y, rw (y, seen, sym r.judged ∙ c))
+    due_skip c y = rw (y, seen, sym r.judged ∙ c)
 
   pub due_end : (i : ℕ) → n ≤ i → (xs : List ℕ) → from_row i xs ≡ xs
   unfolding due_laid keep lay_each
   due_end i h xs = rw (entries_end n ledger i h)
+
+-- what the functions of stores name: of the slot of a page, of the images, of the due pages
+pub ruleset seats = (slots_few, slot_within, slot_most, held_some, held_none)
+
+pub ruleset images = (place_in, place_get, images_none, images_next, sums_none, sums_next)
+
+pub ruleset dues = (due_next, due_skip, due_end)

@@ -1,75 +1,63 @@
--- Passes over slots and over the kind table: what one turn does. Assumes nothing.
-use Prim.Native.Nat.{ℕ, ◌+◌, ◌<◌, ◌≤◌}
-use mathlib.Core.Path.{◌≡◌, refl}
-use mathlib.Core.Bool.{Bool, true, false, ◌||◌}
-use mathlib.Core.List.{List, [], ◌∷◌}
+-- Passes over slots and over the kind table: what the library says of them, in the terms of the rules. Assumes nothing.
+use Prim.Native.Nat.{ℕ, zero, suc, ◌<◌, ◌≤◌}
+use mathlib.Core.Path.{◌≡◌, refl, ◌∙◌, sym, ap}
+use mathlib.Core.Bool.{Bool, ◌||◌, ◌&&◌, true}
+use mathlib.Core.List.{List, [], ◌∷◌, ◌++◌}
 use native.Mathlib.Omega.{arith}
 use native.Mathlib.Numerals.{add-one}
 use lib.Dec.{eqb, ltb}
-use lib.ListN.{length, take, drop, get_or, length-take}
-use lib.Seq.{drop-cons, get_or-take, drop-length}
-use borrow.Author.Tests.{eq-eqb, ne_eqb, ltb-true}
-use Rattle.lists.specs.Below.{below}
+use lib.ListN.{length, take, get_or, length-take}
+use lib.Seq.{get_or-take}
+use borrow.Author.Tests.{ltb-true, ne_eqb}
+use Rattle.std.specs.List.{list_all, All}
+use Rattle.std.proofs.lemmas.List.Elements.{All-from_get_or}
+use Rattle.std.proofs.lemmas.List.Folds.{list_all_more}
+use Rattle.lists.specs.Below.{from, below}
 use Rattle.lists.specs.laws.Below.{all_from_lem}
-use Rattle.lists.specs.laws.Bools.{or_drop}
+use Rattle.lists.specs.laws.Bools.{or_drop, and_assoc, and_yes}
+use Rattle.lists.specs.laws.Passes.{below_snoc}
 use Rattle.lists.specs.Scans.{all_of}
-use Rattle.units.specs.declared.Page.{Page}
-use Rattle.slots.specs.inner.Numbers.{table_of}
 use Rattle.slots.specs.Rules.{slot_rules}
 use Rattle.slots.specs.laws.Sits.{slot_facts}
 use Rattle.slots.specs.Table.{to_page, no_page, page_at, vacant}
 use Rattle.slots.specs.declared.Slots.{Slots}
-use Rattle.recorder.specs.inner.Seats.{seat_below, seat_fits}
+use Rattle.recorder.specs.inner.Seats.{SeatBelow, seat_fits}
 
--- a test of the first n bytes, from i on
-module _ (t : ℕ → Bool) (n : ℕ) (xs : List ℕ) (i : ℕ) where
-  pub bytes_end : n ≤ length xs → n ≤ i → i ≤ n → all_of t (drop i (take n xs)) ≡ true
+all_snoc : {A : Type 0} (t : A → Bool) (l : List A) (x : A) → all_of t (l ++ (x ∷ [])) ≡ (all_of t l && t x)
+unfolding all_of
+all_snoc t [] x = and_yes (t x)
+all_snoc t (y ∷ l) x = rw (all_snoc t l x) (and_assoc (t y) (all_of t l) (t x))
+
+module _ {A : Type 0} (t : A → Bool) where
+  pub all_listed : (l : List A) → list_all t l ≡ all_of t l
   unfolding all_of
-  bytes_end l h k =
-      let e : i ≡ length (take n xs) = simp length-take (omega arith) in
-      rw (e, drop-length)
+  all_listed [] = refl
+  all_listed (x ∷ xs) = ap (λ b. t x && b) (all_listed xs)
 
-  module _ (l : n ≤ length xs) (h : i < n) where
-    next : drop i (take n xs) ≡ get_or xs i 0 ∷ drop (i + 1) (take n xs)
-    next =
-        let m : i < length (take n xs) = simp length-take (omega arith) in
-        rw (add-one i, drop-cons (take n xs) i 0 m, get_or-take n xs i 0 h)
+  -- the first n, by their numbers
+  pub all_taken : (d : A) (l : List A) (n : ℕ) → n ≤ length l → list_all t (take n l) ≡ all_of (λ i. t (get_or l i d)) (below n)
+  unfolding all_of from
+  all_taken d l zero h = refl
+  all_taken d l (suc n) h =
+      ap (λ (k : ℕ). list_all t (take k l)) (sym (add-one n))
+      ∙ list_all_more t l n d (omega arith)
+      ∙ ap (λ b. b && t (get_or l n d)) (all_taken d l n (omega arith))
+      ∙ sym (all_snoc (λ i. t (get_or l i d)) (below n) n)
+      ∙ ap (all_of (λ i. t (get_or l i d))) (sym (below_snoc n) ∙ ap below (add-one n))
 
-    pub bytes_stop : t (get_or xs i 0) ≡ false → all_of t (drop i (take n xs)) ≡ false
-    unfolding all_of
-    bytes_stop k = rw (next, k)
-
-    pub bytes_turn : t (get_or xs i 0) ≡ true → all_of t (drop i (take n xs)) ≡ all_of t (drop (i + 1) (take n xs))
-    unfolding all_of
-    bytes_turn k = rw (next, k)
-
--- slot i, by the pages in the slots
-module _ (kinds : List ℕ) (pages : List Page) (i : ℕ) where
-  pub fits_vacant : (get_or pages i (to_page 0)).0 ≡ no_page → seat_fits kinds pages i ≡ true
+-- a slot table
+module _ (t : Slots) (S : ℕ) where
+  pub table_below : (end n : ℕ) → slot_rules S end t ≡ true → end ≤ n → All (SeatBelow n) (take S t.pages)
   unfolding vacant page_at
-  fits_vacant e = rw (eq-eqb (page_at (table_of pages []) i) no_page e)
+  table_below end n r k = All-from_get_or (SeatBelow n) (take S t.pages) (to_page 0) low
+    where
+      low : (i : ℕ) → i < length (take S t.pages) → SeatBelow n (get_or (take S t.pages) i (to_page 0))
+      low i j ne =
+          let m : i < S = omega (arith, rw (length-take S t.pages) at j) in
+          let e = get_or-take S t.pages i (to_page 0) m in
+          rw e
+          (omega (arith, k, ltb-true (page_at t i) end (or_drop (vacant t i) (ltb (page_at t i) end) (all_from_lem (λ i. vacant t i || ltb (page_at t i) end) 0 S i (omega arith) (omega arith) (slot_facts S end t r).low) (ne_eqb (page_at t i) no_page (rw e at ne)))))
 
-  module _ (ne : (get_or pages i (to_page 0)).0 ≡ no_page → ⊥) where
-    occupied : vacant (table_of pages []) i ≡ false
-    unfolding vacant page_at
-    occupied = ne_eqb (page_at (table_of pages []) i) no_page ne
-
-    pub fits_kind : (p : ℕ) → p ≡ (get_or pages i (to_page 0)).0 → seat_fits kinds pages i ≡ eqb (get_or kinds p 0) 0
-    unfolding page_at
-    fits_kind p e = rw (occupied, e)
-
-    pub page_low : (S end : ℕ) → all_of (seat_below end pages) (below S) ≡ true → i < S → (get_or pages i (to_page 0)).0 < end
-    unfolding page_at
-    page_low S end r h =
-        ltb-true (page_at (table_of pages []) i) end
-        (or_drop (vacant (table_of pages []) i) (ltb (page_at (table_of pages []) i) end) (all_from_lem (seat_below end pages) 0 S i (omega arith) (omega arith) r) occupied)
-
--- of a whole table
-module _ (t : Slots) where
-  pub table_below : (S end : ℕ) → slot_rules S end t ≡ true → all_of (seat_below end t.pages) (below S) ≡ true
+  pub table_fits : S ≤ length t.pages → (kinds : List ℕ) → list_all (seat_fits kinds) (take S t.pages) ≡ all_of (λ i. vacant t i || eqb (get_or kinds (page_at t i) 0) 0) (below S)
   unfolding vacant page_at
-  table_below S end r = (slot_facts S end t r).low
-
-  pub table_fits : (S : ℕ) (kinds : List ℕ) → all_of (seat_fits kinds t.pages) (below S) ≡ all_of (λ i. vacant t i || eqb (get_or kinds (page_at t i) 0) 0) (below S)
-  unfolding vacant page_at
-  table_fits S kinds = refl
+  table_fits h kinds = all_taken (seat_fits kinds) (to_page 0) t.pages S h

@@ -1,21 +1,17 @@
 -- The plan of a close: what the rules give the calls that it makes, and what their answers say of the close. Assumes nothing.
-use Prim.Native.Nat.{ℕ, ◌+◌, ◌*◌, ◌<◌, ◌≤◌}
-use mathlib.Core.Path.{◌≡◌, refl, ◌∙◌, sym, ap, subst}
-use mathlib.Core.Bool.{Bool, true, false, not, ◌&&◌}
-use mathlib.Core.List.{List, map}
+use Rattle.std.proofs.Common.{ℕ, ◌+◌, ◌*◌, ◌<◌, ◌≤◌, ◌≡◌, refl, ◌∙◌, sym, ap, Bool, true, false, not, ◌&&◌, List, map, length, take, arith, length-take}
 use native.Mathlib.Decide.{dec_lt}
-use native.Mathlib.Omega.{arith}
-use lib.Dec.{eqb, ltb, leb}
-use lib.ListN.{length, take, replicate, length-map, length-take}
-use lib.Seq.{length-take-le}
-use borrow.Author.Tests.{eq-eqb, ne_eqb, eqb-true, lt-ltb, ltb-true, le-leb, lt-leb, not-true}
+use Rattle.std.proofs.lemmas.List.{length-map}
+use Rattle.std.proofs.Math.Dec.{ltb, leb}
+use Rattle.std.proofs.Math.Seq.{length-take-le}
+use borrow.Author.Tests.{ltb-true, lt-ltb, le-leb, lt-leb, leb-true, not-true}
 use Rattle.lists.specs.Below.{below}
 use Rattle.lists.specs.laws.Below.{length_from}
-use Rattle.lists.specs.laws.Bools.{both, and_make, false_of}
+use Rattle.lists.specs.laws.Bools.{both, and_make, and_left, and_right, false_of}
 use Rattle.lists.specs.Scans.{keep, all_of}
 use Rattle.lists.specs.laws.Scans.{every_all_of}
-use Rattle.octets.specs.laws.Flagging.{length_flags}
 use Rattle.octets.specs.inner.Flags.{flags}
+use Rattle.units.specs.inner.Pages.{numbers_of}
 use Rattle.units.specs.laws.Bounds.{limits_within, entries_most}
 use Rattle.units.specs.Sizes.{entry_row, limits, entries, places, places_at, ledger_length}
 use Rattle.units.specs.declared.Tick.{Tick}
@@ -23,11 +19,12 @@ use Rattle.sidefile.specs.Encode.{image_sum}
 use Rattle.sidefile.specs.Judge.{ascending, apart}
 use Rattle.sidefile.specs.inner.Table.{places_fit, all_seen}
 use Rattle.sidefile.specs.declared.IndexEntry.{IndexEntry}
-use Rattle.slots.specs.inner.Numbers.{table_of}
+use Rattle.slots.specs.inner.Lent.{table_of}
 use Rattle.slots.specs.laws.Order.{unless}
 use Rattle.slots.specs.laws.Sits.{slot_facts, changed_not}
 use Rattle.slots.specs.Table.{to_page, page_at, vacant, changed_at, changed_page}
 use Rattle.ledger.specs.inner.Changed.{among, entry_ticks, among_kept}
+use Rattle.ledger.specs.inner.Numbers.{place_numbers}
 use Rattle.ledger.specs.laws.Closes.{others_stay}
 use Rattle.ledger.specs.laws.Closing.{new_of, stays_of, changes_of, free_of, length_fresh}
 use Rattle.ledger.specs.Entries.{place_of, retires, fresh}
@@ -39,54 +36,44 @@ use Rattle.ledger.specs.View.{indexed, entries_in}
 use Rattle.recorder.specs.Close.{open_tick, changed_in, changes, free_places, given, fresh_entries, staying, after, suffices}
 use Rattle.recorder.specs.laws.Closed.{closing_of, after_later}
 use Rattle.recorder.specs.laws.Facts.{rule_facts}
-use Rattle.recorder.specs.inner.Handed.{filed}
-use Rattle.recorder.specs.inner.Planned.{Plans, Lists, Planned, PlansTo}
+use Rattle.recorder.specs.inner.Planned.{Plans, Planned}
 use Rattle.recorder.specs.Rules.{rules}
 use Rattle.recorder.specs.World.{World, slot_count, wait_of, entries_of, slot_for, bytes_in}
+use Rattle.recorder.specs.declared.plan.Plan.{Plan}
+use Rattle.recorder.proofs.Bringing.{alone}
 
--- what the calls ask, of n rows
-pub record Asked (w : World) (n : ℕ) : Type 0 where
+-- what the calls ask
+pub record Asked (w : World) : Type 0 where
   pub limited : limits w.state.settings ≡ true
   pub slots : slot_count w ≤ 16
   pub long : ledger_length w.state.settings ≤ length w.ledger
-  pub counted : n ≤ entries w.state.settings
-  pub few : n ≤ 144
-  pub rows : n * entry_row ≤ length w.ledger
-  pub ascends : ascending 0 (map indexed (entries_in n w.ledger)) ≡ true
-  pub placed : places_fit (places w.state.settings) (map indexed (entries_in n w.ledger)) ≡ true
+  pub counted : w.state.entries ≤ entries w.state.settings
+  pub few : w.state.entries ≤ 144
+  pub rows : w.state.entries * entry_row ≤ length w.ledger
+  pub ascends : ascending 0 (map indexed (entries_in w.state.entries w.ledger)) ≡ true
+  pub placed : places_fit (places w.state.settings) (map indexed (entries_in w.state.entries w.ledger)) ≡ true
 
-pub asked : (w : World) → rules w ≡ true → (n : ℕ) → n ≡ w.state.entries → Asked w n
+pub asked : (w : World) → rules w ≡ true → Asked w
 unfolding entries_of ledger_length places_at places_fit
-asked w h n e = subst (Asked w) (sym e) all
-  where
-    all : Asked w w.state.entries
-    all =
-        let f = rule_facts w h in
-        let s = w.state.settings in
-        let b = limits_within s f.limited in
-        let m = entries_most s b in
-        record {
-          limited = f.limited;
-          slots = b.slots_most;
-          long = f.ledger_long;
-          counted = f.counted;
-          few = omega (arith, f.counted, m);
-          rows = omega (arith, f.counted, f.ledger_long);
-          ascends = f.ascends;
-          placed =
-              and_make (all_of (λ (x : IndexEntry). ltb x.place.0 (places s)) (map indexed (entries_of w))) (apart (map indexed (entries_of w)))
-              (all_seen indexed (λ (x : IndexEntry). ltb x.place.0 (places s)) (entries_of w)
-              ∙ every_all_of (λ e. ltb (place_of e) (places s)) (λ e k. lt-ltb (place_of e) (places s) k.place_below) (entries_of w) f.each)
-              f.alone;
-        }
-
--- the bytes of the flags, which a call has written
-module _ (bytes bytes' : List ℕ) (clear : flags bytes ≡ replicate 144 false) (kept : length bytes' ≡ length bytes) where
-  pub going_whole : length (flags bytes') ≡ 144
-  going_whole = length_flags bytes' ∙ ap (λ (n : ℕ). 8 * n) kept ∙ sym (length_flags bytes) ∙ ap length clear
-
-  pub going_bytes : 8 * length bytes' ≡ 144
-  going_bytes = sym (length_flags bytes') ∙ going_whole
+asked w h =
+    let f = rule_facts w h in
+    let s = w.state.settings in
+    let b = limits_within s f.limited in
+    let m = entries_most s b in
+    record {
+      limited = f.limited;
+      slots = b.slots_most;
+      long = f.ledger_long;
+      counted = f.counted;
+      few = omega (arith, f.counted, m);
+      rows = omega (arith, f.counted, f.ledger_long);
+      ascends = f.ascends;
+      placed =
+          and_make (all_of (λ (x : IndexEntry). ltb x.place.0 (places s)) (map indexed (entries_of w))) (apart (map indexed (entries_of w)))
+          (all_seen indexed (λ (x : IndexEntry). ltb x.place.0 (places s)) (entries_of w)
+          ∙ every_all_of (λ e. ltb (place_of e) (places s)) (λ e k. lt-ltb (place_of e) (places s) k.place_below) (entries_of w) f.each)
+          f.alone;
+    }
 
 module _ (w : World) (r : rules w ≡ true) where
   -- no page from e on is changed
@@ -131,74 +118,85 @@ after_count w going h g =
 counts : (w : World) (k free stay : ℕ) (going : List Bool) → k ≡ length (changes w) → free ≡ length (take k (free_places w))
     → take w.state.entries going ≡ map (retires (wait_of w) (open_tick w) (changed_in w)) (entries_of w)
     → stay ≡ length (others going (below w.state.entries))
-    → (eqb free k && leb (stay + k) (entries w.state.settings)) ≡ suffices w
+    → (leb k free && leb (stay + k) (entries w.state.settings)) ≡ suffices w
 unfolding suffices
 counts w k free stay going e f g h = go (dec_lt (length (free_places w)) k)
   where
     go : Dec (length (free_places w) < k)
-        → (eqb free k && leb (stay + k) (entries w.state.settings)) ≡ (leb (length (changes w)) (length (free_places w)) && leb (length (after w)) (entries w.state.settings))
+        → (leb k free && leb (stay + k) (entries w.state.settings)) ≡ (leb (length (changes w)) (length (free_places w)) && leb (length (after w)) (entries w.state.settings))
     go (yes d) =
         let m : free < k = omega (arith, length-take k (free_places w)) in
-        rw (ne_eqb free k (λ z. omega arith), lt-leb (length (changes w)) (length (free_places w)) (omega arith))
+        rw (lt-leb k free m, lt-leb (length (changes w)) (length (free_places w)) (omega arith))
     go (no d) =
         let l : k ≤ length (free_places w) = omega (arith, d) in
         let z : length (after w) ≡ stay + k = omega (arith, after_count w going (omega arith) g) in
-        rw (eq-eqb free k (f ∙ length-take-le k (free_places w) l), le-leb (length (changes w)) (length (free_places w)) (omega arith), z)
+        rw (le-leb k free (omega (arith, f, length-take-le k (free_places w) l)), le-leb (length (changes w)) (length (free_places w)) (omega arith), z)
 
--- the answers of the calls that a plan makes: its numbers, and what stands in the lists then
-pub record Answers (w : World) (N : Tick) (n S wait free stay : ℕ) (p : Lists) : Type 0 where
-  pub rows : n ≡ w.state.entries
-  pub slots : S ≡ slot_count w
+-- the answers of the calls that a plan makes: its numbers, and what stands in the plan then
+pub record Answers (w : World) (N : Tick) (wait free stay : ℕ) (p : Plan) : Type 0 where
+  pub plans : Plans w N
   pub waits : wait ≡ wait_of w
   pub most : p.count ≤ 16
-  pub listed : take p.count p.pages ≡ keep (changed_page S (table_of w.state.slots.pages w.state.slots.changed)) (below w.state.end)
-  pub freed : free ≡ length (take p.count (free_in w.state.settings n N w.ledger))
-  pub given : take free p.places ≡ take p.count (free_in w.state.settings n N w.ledger)
-  pub flagged : take n p.going ≡ map (retires wait N (among (take p.count p.pages))) (entries_in n w.ledger)
-  pub came : take p.count p.entered ≡ entry_ticks N (entries_in n w.ledger) (take p.count p.pages)
-  pub stays : stay ≡ length (others p.going (below n))
+  pub listed : numbers_of p.count p.pages ≡ keep (changed_page (slot_count w) (table_of w.state.slots.pages w.state.slots.changed)) (below w.state.end)
+  pub freed : free ≡ length (take p.count (free_in w.state.settings w.state.entries N w.ledger))
+  pub given : place_numbers free p.places ≡ take p.count (free_in w.state.settings w.state.entries N w.ledger)
+  pub flagged : take w.state.entries (flags p.going) ≡ map (retires wait N (among (numbers_of p.count p.pages))) (entries_in w.state.entries w.ledger)
+  pub came : take p.count p.entered ≡ entry_ticks N (entries_in w.state.entries w.ledger) (numbers_of p.count p.pages)
+  pub stays : stay ≡ length (others (flags p.going) (below w.state.entries))
   pub whole_pages : length p.pages ≡ 16
-  pub whole_places : length p.places ≡ 16
-  pub whole_going : length p.going ≡ 144
-
--- enough, as the code tells it: by the places, and if there are all by the rows
-pub enough_rows : (free k later x most : ℕ) → free ≡ k → x ≡ most → leb later x ≡ (eqb free k && leb later most)
-enough_rows free k later x most e z = rw (eq-eqb free k e, z)
-
-pub enough_not : (free k : ℕ) (more : Bool) → (free ≡ k → ⊥) → eqb free k ≡ (eqb free k && more)
-enough_not free k more n = rw (ne_eqb free k n)
 
 -- put together
-pub plans : (w : World) (N : Tick) (n S wait free stay : ℕ) (p : Lists) → Answers w N n S wait free stay p → (enough : Bool)
-    → enough ≡ (eqb free p.count && leb (stay + p.count) (entries w.state.settings)) → PlansTo w N enough p
-unfolding free_places free_in entries_of changes changed_in changed_page page_at changed_at
-plans w N n S wait free stay p a enough e q =
-    let k = p.count in
-    let tk = q.1 in
-    let en = a.rows in
-    let cs : take k p.pages ≡ changes w = rw a.slots at a.listed in
-    let l : k ≡ length (changes w) = sym (length-take-le k p.pages (omega (arith, a.most, a.whole_pages))) ∙ ap length cs in
-    let f : free ≡ length (take k (free_places w)) = rw (tk, en) at a.freed in
-    let g : take w.state.entries p.going ≡ map (retires (wait_of w) (open_tick w) (changed_in w)) (entries_of w)
-    = (rw (tk, en, a.waits, cs) at a.flagged) ∙ (λ i. map (retires (wait_of w) (open_tick w) (λ x. among_changes w q.0 x i)) (entries_of w)) in
-    let s : stay ≡ length (others p.going (below w.state.entries)) = rw en at a.stays in
-    let y : enough ≡ suffices w = e ∙ counts w k free stay p.going l f g s in (
-      y,
-      record {
-        most = a.most;
-        counted = l;
-        changed = cs;
-        placed =
-            λ z. let x : free ≡ k = eqb-true free k (both (eqb free k) (leb (stay + k) (entries w.state.settings)) (sym e ∙ y ∙ z)).0 in rw (x, tk, en) at a.given;
-        came = rw (tk, en, cs) at a.came;
-        gone = g;
-        whole_pages = a.whole_pages;
-        whole_places = a.whole_places;
-        whole_going = a.whole_going;
-      },
-    )
+module _ {w : World} {N : Tick} {wait free stay : ℕ} {p : Plan} (a : Answers w N wait free stay p) where
+  ticked : N ≡ open_tick w
+  ticked = a.plans.1
 
--- The plan looks at the numbers, the table and the ledger only: it is one of every world with these.
+  changed : numbers_of p.count p.pages ≡ changes w
+  unfolding changes changed_in changed_page page_at changed_at
+  changed = a.listed
+
+  counted : p.count ≡ length (changes w)
+  counted =
+      sym (length-take-le p.count p.pages (omega (arith, a.most, a.whole_pages)))
+      ∙ sym (length-map (take p.count p.pages) (λ q. q.0))
+      ∙ ap length changed
+
+  gone : take w.state.entries (flags p.going) ≡ map (retires (wait_of w) (open_tick w) (changed_in w)) (entries_of w)
+  unfolding entries_of
+  gone =
+      (rw (ticked, a.waits, changed) at a.flagged)
+      ∙ (λ i. map (retires (wait_of w) (open_tick w) (λ x. among_changes w a.plans.0 x i)) (entries_of w))
+
+  enough : (leb p.count free && leb (stay + p.count) (entries w.state.settings)) ≡ suffices w
+  unfolding free_places free_in entries_of
+  enough = counts w p.count free stay (flags p.going) counted (rw ticked at a.freed) gone a.stays
+
+  -- too few places; too few rows; enough of both
+  pub few_places : free < p.count → suffices w ≡ false
+  few_places h = sym enough ∙ and_left (leb p.count free) (leb (stay + p.count) (entries w.state.settings)) (lt-leb p.count free h)
+
+  pub few_rows : entries w.state.settings < stay + p.count → suffices w ≡ false
+  few_rows h = sym enough ∙ and_right (leb p.count free) (leb (stay + p.count) (entries w.state.settings)) (lt-leb (stay + p.count) (entries w.state.settings) h)
+
+  pub both_enough : p.count ≤ free → stay + p.count ≤ entries w.state.settings → suffices w ≡ true
+  both_enough l m =
+      sym enough ∙ and_make (leb p.count free) (leb (stay + p.count) (entries w.state.settings)) (le-leb p.count free l) (le-leb (stay + p.count) (entries w.state.settings) m)
+
+  pub planned : Planned w p
+  unfolding free_places free_in entries_of
+  planned = record {
+    most = a.most;
+    counted = counted;
+    changed = changed;
+    placed =
+        λ e.
+        let l : p.count ≤ free = leb-true p.count free (both (leb p.count free) (leb (stay + p.count) (entries w.state.settings)) (enough ∙ e)).0 in
+        let x : free ≡ p.count = omega (arith, l, a.freed, length-take p.count (free_in w.state.settings w.state.entries N w.ledger)) in
+        rw (x, ticked) at a.given;
+    came = rw (ticked, changed) at a.came;
+    gone = gone;
+  }
+
+-- A plan looks at the state and the ledger alone: it is one of every world with these.
 
 length_after : (w : World) → length (after w) ≡ length (given w) + length (staying w)
 unfolding after fresh_entries
@@ -206,16 +204,16 @@ length_after w =
     length_put (fresh_entries w) (staying w)
     ∙ ap (λ (n : ℕ). n + length (staying w)) (length-map (given w) (fresh (open_tick w) (entries_of w) (λ q. image_sum (to_page q) (bytes_in w q))))
 
-module _ (w : World) (base side buffer : List ℕ) where
-  pub same_suffices : suffices w ≡ suffices (filed base side buffer w)
+module _ (w : World) where
+  pub same_suffices : suffices (alone w) ≡ suffices w
   unfolding suffices given changes changed_in free_places staying entries_of
-  same_suffices = rw (length_after w, length_after (filed base side buffer w))
+  same_suffices = rw (length_after (alone w), length_after w)
 
-  pub plans_alone : (N : Tick) → Plans (filed base side buffer w) N → Plans w N
+  pub plans_alone : (N : Tick) → Plans w N → Plans (alone w) N
   unfolding rules slot_for
   plans_alone N q = q
 
-  pub planned_in : (p : Lists) → Planned w p → Planned (filed base side buffer w) p
+  pub planned_in : (p : Plan) → Planned (alone w) p → Planned w p
   unfolding changes changed_in free_places entries_of
   planned_in p q =
       record {
@@ -225,7 +223,4 @@ module _ (w : World) (base side buffer : List ℕ) where
         placed = λ e. q.placed (same_suffices ∙ e);
         came = q.came;
         gone = q.gone;
-        whole_pages = q.whole_pages;
-        whole_places = q.whole_places;
-        whole_going = q.whole_going;
       }

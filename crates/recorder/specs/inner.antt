@@ -1,8 +1,8 @@
 -- What the contracts of inner functions cite, and the laws about it. No public contract cites it.
 pub mod Carried
-pub mod Handed
+pub mod Copies
+pub mod Kinds
 pub mod Planned
 pub mod Seats
-pub mod Stretches
 pub mod Tests
 pub mod Using

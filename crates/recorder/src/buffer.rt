@@ -1,95 +1,105 @@
 // The page buffer: which slots may not be chosen, the slot in which a page is used, and the page's bytes there. A slot is chosen
 // before anything is changed, and the table with the page in it is made afterwards: a table that came back with the answer
 // would be copied once more.
-ghost use Rattle.std.specs.Prelude.{◌≡◌, true, [], map, ◌+◌, ◌*◌, ◌≤◌, length};
-ghost use Rattle.lists.specs.Below.{below};
+ghost use Rattle.std.specs.Prelude.{◌≡◌, true, false, ℕ, [], ◌+◌, ◌*◌, ◌<◌, ◌≤◌, length, get_or};
 ghost use Rattle.octets.specs.Rows.{page};
-ghost use Rattle.recorder.specs.Calls.{unclean};
+ghost use Rattle.slots.specs.laws.Sits.{Whole};
+ghost use Rattle.recorder.specs.Calls as Calls;
 ghost use Rattle.recorder.specs.Outcome.{lent};
 ghost use Rattle.recorder.specs.Rules.{rules};
-ghost use Rattle.recorder.specs.inner.Using.{Places, placed, Chosen, brought_to};
+ghost use Rattle.recorder.specs.inner.Using.{slot_in, Places, placed, Seated, Chosen, brought_to};
 
 use crate::State;
 use ledger::search;
-use sidefile::wide;
-use slots::{Found, Slots};
+use slots::{Seat, Slots, lookup};
+use std::array;
 use units::Page;
 
-// The slot in which a page is used: its own, a hit, or one that it takes, for which a page may have to go; or there is none to
-// take.
+// Where a page is used: in its own slot, or in one that it takes, for which a page may have to go.
 #[derive(Clone, Copy)]
-pub struct Use {
-    pub found: bool,
-    pub hit: bool,
-    pub evicts: bool,
-    pub slot: usize,
+pub enum Use {
+    Hit(usize),
+    Taken(Seat),
 }
 
 impl Use {
+    pub fn slot(self) -> usize
+        ensures { result ≡ slot_in self }
+    {
+        match self {
+            Use::Hit(slot) => slot,
+            Use::Taken(seat) => seat.slot,
+        }
+    }
+
     // The table with the page used in its slot.
     pub fn place(self, table: Slots, page: Page) -> Slots
         requires { Places self page.0 table }
         ensures { result ≡ placed self page.0 table }
     {
-        if self.hit {
-            return table.touch(page);
+        match self {
+            Use::Hit(_) => table.touch(page),
+            Use::Taken(seat) => table.take(seat, page),
         }
-        table.take(self.slot, self.evicts, page)
     }
 }
 
-// Which slots may not be chosen: those of changed and of owed pages.
-fn unclean_slots(state: State, ledger: &[u8]) -> [bool; 16]
-    requires { rules (lent state ledger.now [] [] [] []) ≡ true }
-    ensures { result ≡ map (unclean (lent state ledger.now [] [] [] [])) (below 16) }
+// The page in a slot is changed or owed, so that the slot may not be chosen. `whole` is told because a caller does not know the
+// lengths of arrays behind a reference.
+#[tactic(auto, using(crate::proofs::Bringing::search_asks), unfolding(crate::specs::Calls::unclean, crate::specs::World::entries_of, slots::specs::Table::changed_at, slots::specs::Table::page_at))]
+fn unclean(state: &State, ledger: &[u8], i: usize) -> bool
+    requires { (rules (lent state.now ledger.now [] [] [] []) ≡ true) × (i < 16) }
+    ensures unclean { result ≡ Calls.unclean (lent state.now ledger.now [] [] [] []) i }
+    ensures whole { Whole state.now.slots }
 {
-    let n = wide(state.entries);
-    let wait = state.settings.wait();
-    let closed = state.closed;
-    let table = state.slots;
-    let mut mask = [false; 16];
-    let mut i: usize = 0;
-    while i < 16 {
-        mask[i] = table.changed[i] != 0
-            || search::owed_page(ledger, n, wait, closed, table.pages[i]);
-        i += 1;
-    }
-    mask
+    state.slots.changed[i] != 0
+        || search::owed_page(
+            ledger,
+            state.entries as usize,
+            state.settings.wait(),
+            state.closed,
+            state.slots.pages[i],
+        )
+}
+
+// Which slots may not be chosen.
+fn unclean_slots(state: &State, ledger: &[u8]) -> [bool; 16]
+    requires { rules (lent state.now ledger.now [] [] [] []) ≡ true }
+    ensures unclean { (i : ℕ) → i < 16 → get_or result i false ≡ Calls.unclean (lent state.now ledger.now [] [] [] []) i }
+    ensures whole { Whole state.now.slots }
+{
+    array::from_fn(|i| unclean(state, ledger, i))
+}
+
+// The slot that a page gets which is in none, for the pages below e and e itself.
+pub fn seat_for(state: &State, ledger: &[u8]) -> Option<Seat>
+    requires { rules (lent state.now ledger.now [] [] [] []) ≡ true }
+    ensures { (p : ℕ) → p ≤ state.now.end → Seated (lent state.now ledger.now [] [] [] []) p result }
+{
+    let mask = unclean_slots(state, ledger);
+    state.slots.seat(state.settings.slots as usize, mask)
 }
 
 // For one of the file's pages, or the next that it gets.
-pub fn slot_for(state: State, ledger: &[u8], page: Page) -> Use
-    requires { (rules (lent state ledger.now [] [] [] []) ≡ true) × (page.0 ≤ state.end) }
-    ensures { Chosen (lent state ledger.now [] [] [] []) page.0 result }
+pub fn slot_for(state: &State, ledger: &[u8], page: Page) -> Option<Use>
+    requires { (rules (lent state.now ledger.now [] [] [] []) ≡ true) × (page.0 ≤ state.now.end) }
+    ensures { Chosen (lent state.now ledger.now [] [] [] []) page.0 result }
 {
-    let table = state.slots;
-    match table.slot_of(wide(state.settings.slots), page) {
-        Found::At(i) => Use {
-            found: true,
-            hit: true,
-            evicts: false,
-            slot: i,
-        },
-        Found::Nothing => {
-            let mask = unclean_slots(state, ledger);
-            let seat = table.seat(wide(state.settings.slots), mask);
-            Use {
-                found: seat.found,
-                hit: false,
-                evicts: seat.evicts,
-                slot: seat.slot,
-            }
-        }
+    let slots = state.settings.slots as usize;
+    if let Some(slot) = lookup::slot_in(&state.slots.pages, slots, page) {
+        return Some(Use::Hit(slot));
     }
+    let seat = seat_for(state, ledger)?;
+    Some(Use::Taken(seat))
 }
 
 // The bytes of page k in its slot: they are there on a hit, else they come from the base.
-pub fn bring(hit: bool, base: &[u8], k: usize, buffer: &mut [u8], slot: usize, size: u32)
-    requires { (k * size + size ≤ length base.now) × (slot * size + size ≤ length buffer.old) }
-    ensures { buffer.new ≡ brought_to «hit» buffer.old (slot * size) (page size k base.now) }
+pub fn bring(used: Use, base: &[u8], k: usize, buffer: &mut [u8], size: u32)
+    requires { (k * size + size ≤ length base.now) × (slot_in used * size + size ≤ length buffer.old) }
+    ensures { buffer.new ≡ brought_to used size (page size k base.now) buffer.old }
 {
-    if !hit {
-        let n = wide(size);
-        octets::copy(base, k * n, buffer, slot * n, n);
+    if let Use::Taken(seat) = used {
+        let n = size as usize;
+        octets::copy(base, k * n, buffer, seat.slot * n, n);
     }
 }

@@ -1,19 +1,16 @@
 // Open, read, write and grow. They take anything: every number, slice and state is judged before it is used. A refusal comes
-// before anything is written, and hands back the state that was given.
+// before anything is written, and the state stays the one that was given.
 ghost use Rattle.std.specs.Prelude.{◌≡◌, []};
 ghost use Rattle.recorder.specs.Calls as Calls;
-ghost use Rattle.recorder.specs.Outcome.{lent, answered};
+ghost use Rattle.recorder.specs.Outcome.{lent, answer, answer_with, answered};
 ghost use Rattle.recorder.specs.World.{zero_state};
 
-use crate::{Answer, State, buffer, spans, tests};
-use sidefile::{encode, wide};
-use units::{Page, Settings, Tick, refusal};
+use crate::kinds::Kind;
+use crate::{Answer, Files, State, buffer, spans, tests};
+use sidefile::encode;
+use units::{Page, Refusal, Settings, Tick};
 
-// The kind byte of a metadata page.
-const METADATA: u8 = 0;
-
-const RAW: u8 = 1;
-
+// How C is answered. One function that takes what a call answered would copy the state once more.
 impl Answer {
     // The call is done, and this is the state from now on.
     pub fn accepted(state: State) -> Answer
@@ -30,7 +27,7 @@ impl Answer {
     }
 }
 
-// Tick `tick` is closed, the index empty, the slots empty, the counts zero. 1, 2, 5 or 0.
+// Tick `tick` is closed, the index empty, the slots empty, the counts zero. 1, 2, 5 or done.
 pub fn open(
     settings: Settings,
     end: u32,
@@ -40,21 +37,25 @@ pub fn open(
     side: &mut [u8],
     buffer: &[u8],
     kinds: &[u8],
-) -> Answer
-    ensures { answered result ledger.new base.now side.new buffer.now kinds.now [] ≡ Calls.open_reply settings end tick.0 (lent zero_state ledger.old base.now side.old buffer.now kinds.now) }
+) -> Result<State, Refusal>
+    ensures { answered (answer zero_state result) ledger.new base.now side.new buffer.now kinds.now [] ≡ Calls.open_reply settings end tick.0 (lent zero_state ledger.old base.now side.old buffer.now kinds.now) }
 {
-    let number = tests::opens(settings, end, tick.0, ledger, base, side, buffer, kinds);
-    if number != 0 {
-        return Answer::refused(number, State::zero());
-    }
+    let files = Files {
+        ledger,
+        base,
+        side,
+        buffer,
+        kinds,
+    };
+    tests::opens(settings, end, tick.0, &files)?;
     octets::clear(ledger, 0, settings.ledger_length());
     encode::write_empty(side, settings, tick, end);
-    Answer::accepted(State::first(settings, end, tick))
+    Ok(State::first(settings, end, tick))
 }
 
-// The bytes of a page at an offset, as many as `into` has room for. 3, 2, 4, 5, 6 or 0.
+// The bytes of a page at an offset, as many as `into` has room for. 3, 2, 4, 5, 6 or done.
 pub fn read(
-    state: State,
+    state: &mut State,
     ledger: &[u8],
     base: &[u8],
     side: &[u8],
@@ -63,33 +64,38 @@ pub fn read(
     page: Page,
     offset: u32,
     into: &mut [u8],
-) -> Answer
-    ensures { answered result ledger.now base.now side.now buffer.new kinds.now into.new ≡ Calls.read_reply page.0 offset into.old (lent state ledger.now base.now side.now buffer.old kinds.now) }
+) -> Result<(), Refusal>
+    ensures { answered (answer_with result state.new) ledger.now base.now side.now buffer.new kinds.now into.new ≡ Calls.read_reply page.0 offset into.old (lent state.old ledger.now base.now side.now buffer.old kinds.now) }
 {
-    let n = into.len();
-    let number = tests::accesses(state, ledger, base, side, buffer, kinds, page, offset, n);
-    if number != 0 {
-        return Answer::refused(number, state);
-    }
+    let files = Files {
+        ledger,
+        base,
+        side,
+        buffer,
+        kinds,
+    };
+    let kind = tests::accesses(state, &files, page, offset, into.len())?;
     let size = state.settings.size;
-    let k = wide(page.0);
-    if kinds[k] != METADATA {
+    let k = page.0 as usize;
+    if kind == Kind::Raw {
         spans::read_span(base, k, size, offset, into);
-        return Answer::accepted(state.raw_bypass());
+        state.raw_bypass();
+        return Ok(());
     }
-    let used = buffer::slot_for(state, ledger, page);
-    if !used.found {
+    let Some(used) = buffer::slot_for(state, ledger, page) else {
         spans::read_span(base, k, size, offset, into);
-        return Answer::accepted(state.meta_bypass());
-    }
-    buffer::bring(used.hit, base, k, buffer, used.slot, size);
-    spans::read_span(buffer, used.slot, size, offset, into);
-    Answer::accepted(state.used(used, page))
+        state.meta_bypass();
+        return Ok(());
+    };
+    buffer::bring(used, base, k, buffer, size);
+    spans::read_span(buffer, used.slot(), size, offset, into);
+    state.used(used, page);
+    Ok(())
 }
 
-// The bytes laid over a page at an offset. 3, 2, 4, 5, 6, 7 or 0.
+// The bytes laid over a page at an offset. 3, 2, 4, 5, 6, 7 or done.
 pub fn write(
-    state: State,
+    state: &mut State,
     ledger: &[u8],
     base: &mut [u8],
     side: &[u8],
@@ -98,57 +104,64 @@ pub fn write(
     page: Page,
     offset: u32,
     bytes: &[u8],
-) -> Answer
-    ensures { answered result ledger.now base.new side.now buffer.new kinds.now bytes.now ≡ Calls.write_reply page.0 offset bytes.now (lent state ledger.now base.old side.now buffer.old kinds.now) }
+) -> Result<(), Refusal>
+    ensures { answered (answer_with result state.new) ledger.now base.new side.now buffer.new kinds.now bytes.now ≡ Calls.write_reply page.0 offset bytes.now (lent state.old ledger.now base.old side.now buffer.old kinds.now) }
 {
-    let n = bytes.len();
-    let number = tests::accesses(state, ledger, base, side, buffer, kinds, page, offset, n);
-    if number != 0 {
-        return Answer::refused(number, state);
-    }
+    let files = Files {
+        ledger,
+        base,
+        side,
+        buffer,
+        kinds,
+    };
+    let kind = tests::accesses(state, &files, page, offset, bytes.len())?;
     let size = state.settings.size;
-    let k = wide(page.0);
-    if kinds[k] != METADATA {
+    let k = page.0 as usize;
+    if kind == Kind::Raw {
         spans::write_span(bytes, base, k, size, offset);
-        return Answer::accepted(state.raw_bypass());
+        state.raw_bypass();
+        return Ok(());
     }
-    let used = buffer::slot_for(state, ledger, page);
-    if !used.found {
-        return Answer::refused(refusal::NO_SLOT, state);
-    }
-    buffer::bring(used.hit, base, k, buffer, used.slot, size);
-    spans::write_span(bytes, buffer, used.slot, size, offset);
-    Answer::accepted(state.used(used, page).changed(used.slot))
+    let used = buffer::slot_for(state, ledger, page).ok_or(Refusal::NoSlot)?;
+    let slot = used.slot();
+    buffer::bring(used, base, k, buffer, size);
+    spans::write_span(bytes, buffer, slot, size, offset);
+    state.used(used, page);
+    state.changed(slot);
+    Ok(())
 }
 
-// One zero page more, of the named kind. 3, 2, 5, 8, 7 or 0.
+// One zero page more, of the named kind. 3, 2, 5, 8, 7 or done.
 pub fn grow(
-    state: State,
+    state: &mut State,
     ledger: &[u8],
     base: &mut [u8],
     side: &[u8],
     buffer: &mut [u8],
     kinds: &mut [u8],
     kind: u32,
-) -> Answer
-    ensures { answered result ledger.now base.new side.now buffer.new kinds.new [] ≡ Calls.grow_reply kind (lent state ledger.now base.old side.now buffer.old kinds.old) }
+) -> Result<(), Refusal>
+    ensures { answered (answer_with result state.new) ledger.now base.new side.now buffer.new kinds.new [] ≡ Calls.grow_reply kind (lent state.old ledger.now base.old side.now buffer.old kinds.old) }
 {
-    let number = tests::grows(state, ledger, base, side, buffer, kinds, kind);
-    if number != 0 {
-        return Answer::refused(number, state);
-    }
+    let files = Files {
+        ledger,
+        base,
+        side,
+        buffer,
+        kinds,
+    };
+    let kind = tests::grows(state, &files, kind)?;
     let size = state.settings.size;
-    let k = wide(state.end);
-    if kind != 0 {
+    let k = state.end as usize;
+    if kind == Kind::Raw {
         spans::clear_page(base, k, size);
-        kinds[k] = RAW;
-        return Answer::accepted(state.grown());
+        kinds[k] = Kind::Raw as u8;
+        state.grown();
+        return Ok(());
     }
-    let used = buffer::slot_for(state, ledger, Page(state.end));
-    if !used.found {
-        return Answer::refused(refusal::NO_SLOT, state);
-    }
-    spans::clear_page(buffer, used.slot, size);
-    kinds[k] = METADATA;
-    Answer::accepted(state.seated(used.slot, used.evicts))
+    let seat = buffer::seat_for(state, ledger).ok_or(Refusal::NoSlot)?;
+    spans::clear_page(buffer, seat.slot, size);
+    kinds[k] = Kind::Metadata as u8;
+    state.seated(seat);
+    Ok(())
 }

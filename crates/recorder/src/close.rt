@@ -1,148 +1,94 @@
 // The close of a tick (document 01, "Close"). Nothing is written before it is sure to be accepted; then the stores are made in
 // their order: images, base pages, index, header. The ledger, which no desk sees, is renewed along the way.
 ghost use Rattle.std.specs.Prelude.{◌≡◌, []};
-ghost use Rattle.octets.specs.inner.Flags.{flags};
-ghost use Rattle.slots.specs.inner.Numbers.{pages_of};
-ghost use Rattle.recorder.specs.inner.Carried.{Closes, Carries, CarriesTo, ClosesTo};
 ghost use Rattle.recorder.specs.Close.{close_reply};
-ghost use Rattle.recorder.specs.inner.Handed.{handed, flagged, filed};
-ghost use Rattle.recorder.specs.Outcome.{lent, answered};
-ghost use Rattle.recorder.specs.World.{World};
+ghost use Rattle.recorder.specs.inner.Carried.{Closes, Carries, Carried, Ended};
+ghost use Rattle.recorder.specs.Outcome.{lent, answer_with, answered};
 
-use crate::{Answer, State, front, plan, stores, tests};
+use crate::plan::Plan;
+use crate::{Files, State, front, stores, tests};
 use ledger::renewal;
-use sidefile::wide;
-use slots::lookup;
-use units::{Page, Settings, Tick, refusal};
+use units::{Refusal, Tick};
 
-// 0 and how many entries there are, or the number of the refusal.
-#[derive(Clone, Copy)]
-pub struct Done {
-    pub number: u32,
-    pub entries: u32,
-}
-
-// The stores of a close that was planned, and its ledger. Answers how many entries there are then.
+// The stores of a close that was planned, and its ledger. Answers how many entries there are then. The kinds play no part.
 fn carry_out(
-    settings: Settings,
-    end: u32,
-    entries: u32,
-    seats: &[u32; 16],
+    state: &State,
     ledger: &mut [u8],
     base: &mut [u8],
     side: &mut [u8],
     buffer: &[u8],
     tick: Tick,
-    count: usize,
-    pages: &[u32; 16],
-    places: &[u32; 16],
-    entered: &[u32; 16],
-    going: &[u8],
-) -> usize
-    requires { (w : World) × Carries (filed base.old side.old buffer.now (handed settings end entries (pages_of seats.now) ledger.old w)) tick (record { count = count; pages = pages.now; places = places.now; entered = entered.now; going = flags going.now }) }
-    ensures { (w : World) → CarriesTo (filed base.old side.old buffer.now (handed settings end entries (pages_of seats.now) ledger.old w)) tick (record { count = count; pages = pages.now; places = places.now; entered = entered.now; going = flags going.now }) result ledger.new base.new side.new }
+    plan: &Plan,
+) -> u32
+    requires { Carries (lent state.now ledger.old base.old side.old buffer.now []) tick plan.now }
+    ensures { Carried (lent state.now ledger.old base.old side.old buffer.now []) result ledger.new base.new side.new }
 {
-    let kept = renewal::settle(ledger, settings, wide(entries), going, tick);
-    let mut sums = [0u32; 16];
-    stores::write_images(
-        settings, seats, buffer, side, pages, places, count, &mut sums,
+    let kept = renewal::settle(
+        ledger,
+        state.settings,
+        state.entries as usize,
+        &plan.going,
+        tick,
     );
-    let n = renewal::put_all(ledger, kept, pages, places, &sums, entered, count, tick);
-    stores::write_due(settings, seats, ledger, n, buffer, base, tick);
-    front::write_front(ledger, settings, n, tick, end, side);
-    n
+    let sums = stores::write_images(state, buffer, side, plan);
+    let n = renewal::put_all(
+        ledger,
+        kept,
+        &plan.pages,
+        &plan.places,
+        &sums,
+        &plan.entered,
+        plan.count,
+        tick,
+    );
+    stores::write_due(state, ledger, n, buffer, base, tick);
+    front::write_front(state, ledger, n, tick, side);
+    n as u32
 }
 
-// A close whose tests before 10 have passed: planned, and if there is enough of everything carried out. It has the arrays of
-// the plan, so that a close has them once.
+// A close whose tests before 10 have passed: planned, and carried out. Answers how many entries there are then. It has a frame of
+// its own, so that its arrays are not on the stack while the state is judged.
+#[inline(never)]
 fn closing(
-    settings: Settings,
-    end: u32,
-    entries: u32,
-    held: [Page; 16],
-    changed: [u8; 16],
-    tick: Tick,
+    state: &State,
     ledger: &mut [u8],
     base: &mut [u8],
     side: &mut [u8],
     buffer: &[u8],
-) -> Done
-    requires { (w : World) × Closes (filed base.old side.old buffer.now (handed settings end entries held ledger.old (flagged changed w))) tick }
-    ensures { (w : World) → ClosesTo (filed base.old side.old buffer.now (handed settings end entries held ledger.old (flagged changed w))) tick result ledger.new base.new side.new }
+    tick: Tick,
+) -> Result<u32, Refusal>
+    requires { Closes (lent state.now ledger.old base.old side.old buffer.now []) tick }
+    ensures { Ended (lent state.now ledger.old base.old side.old buffer.now []) result ledger.new base.new side.new }
 {
-    let mut seats = [0u32; 16];
-    let mut pages = [0u32; 16];
-    let mut places = [0u32; 16];
-    let mut entered = [0u32; 16];
-    let mut going = [0u8; Settings::ENTRY_FLAGS];
-    lookup::list_seats(held, &mut seats);
-    let plan = plan::of_close(
-        settings,
-        end,
-        entries,
-        &seats,
-        &changed,
-        ledger,
-        tick,
-        &mut going,
-        &mut pages,
-        &mut places,
-        &mut entered,
-    );
-    if !plan.enough {
-        return Done {
-            number: refusal::NO_PLACE,
-            entries,
-        };
-    }
-    let n = carry_out(
-        settings, end, entries, &seats, ledger, base, side, buffer, tick, plan.count, &pages,
-        &places, &entered, &going,
-    );
-    Done {
-        number: 0,
-        entries: n as u32,
-    }
+    let mut plan = Plan::empty();
+    plan.fill(state, ledger, tick)?;
+    Ok(carry_out(state, ledger, base, side, buffer, tick, &plan))
 }
 
 // The open tick is closed. 3, 2, 9, 10 or 0.
+#[tactic(auto, using(crate::proofs::Ending::close_refused, crate::proofs::Ending::close_low, crate::proofs::Ending::ended_refused))]
 pub fn close(
-    state: State,
+    state: &mut State,
     ledger: &mut [u8],
     base: &mut [u8],
     side: &mut [u8],
     buffer: &[u8],
     kinds: &[u8],
-) -> Answer
-    ensures { answered result ledger.new base.new side.new buffer.now kinds.now [] ≡ close_reply (lent state ledger.old base.old side.old buffer.now kinds.now) }
+) -> Result<(), Refusal>
+    ensures { answered (answer_with result state.new) ledger.new base.new side.new buffer.now kinds.now [] ≡ close_reply (lent state.old ledger.old base.old side.old buffer.now kinds.now) }
 {
-    let number = tests::closes(state, ledger, base, side, buffer, kinds);
-    if number != 0 {
-        return Answer::refused(number, state);
-    }
-    let tick = Tick(state.closed.0 + 1);
-    let table = state.slots;
-    let pages = table.pages;
-    let changed = table.changed;
-    let done = closing(
-        state.settings,
-        state.end,
-        state.entries,
-        pages,
-        changed,
-        tick,
+    let files = Files {
         ledger,
         base,
         side,
         buffer,
-    );
-    if done.number != 0 {
-        return Answer::refused(done.number, state);
-    }
-    Answer::accepted(State {
-        closed: tick,
-        entries: done.entries,
-        slots: table.unmark(),
-        ..state
-    })
+        kinds,
+    };
+    tests::closes(state, &files)?;
+    let tick = Tick(state.closed.0 + 1);
+    let entries = closing(state, ledger, base, side, buffer, tick)?;
+    state.closed = tick;
+    state.entries = entries;
+    state.slots = state.slots.unmark();
+    Ok(())
 }

@@ -4,17 +4,7 @@ ghost use Rattle.recorder.specs.inner.Using.{add_use};
 ghost use Rattle.recorder.specs.World as World;
 
 use crate::Counts;
-
-const MOST: u32 = 4294967295;
-
-fn bump(n: u32) -> u32
-    ensures { result ≡ World.bump n }
-{
-    if n == MOST {
-        return n;
-    }
-    n + 1
-}
+use crate::buffer::Use;
 
 impl Counts {
     pub fn none() -> Counts
@@ -32,8 +22,8 @@ impl Counts {
     fn hit(mut self) -> Counts
         ensures { result ≡ World.add_hit self }
     {
-        self.accesses = bump(self.accesses);
-        self.hits = bump(self.hits);
+        self.accesses = self.accesses.saturating_add(1);
+        self.hits = self.hits.saturating_add(1);
         self
     }
 
@@ -41,7 +31,7 @@ impl Counts {
         ensures { result ≡ World.add_eviction «evicts» self }
     {
         if evicts {
-            self.evictions = bump(self.evictions);
+            self.evictions = self.evictions.saturating_add(1);
         }
         self
     }
@@ -49,25 +39,25 @@ impl Counts {
     fn miss(mut self, evicts: bool) -> Counts
         ensures { result ≡ World.add_miss «evicts» self }
     {
-        self.accesses = bump(self.accesses);
-        self.misses = bump(self.misses);
+        self.accesses = self.accesses.saturating_add(1);
+        self.misses = self.misses.saturating_add(1);
         self.eviction(evicts)
     }
 
     // A page used in its slot, or in one that it took.
-    pub fn used(self, hit: bool, evicts: bool) -> Counts
-        ensures { result ≡ add_use «hit» «evicts» self }
+    pub fn used(self, used: Use) -> Counts
+        ensures { result ≡ add_use used self }
     {
-        if hit {
-            return self.hit();
+        match used {
+            Use::Hit(_) => self.hit(),
+            Use::Taken(seat) => self.miss(seat.evicts),
         }
-        self.miss(evicts)
     }
 
     pub fn bypass(mut self) -> Counts
         ensures { result ≡ World.add_bypass self }
     {
-        self.bypasses = bump(self.bypasses);
+        self.bypasses = self.bypasses.saturating_add(1);
         self
     }
 }

@@ -9,6 +9,7 @@ pub mod close;
 pub mod counting;
 pub mod front;
 pub mod judge;
+pub mod kinds;
 pub mod plan;
 pub mod spans;
 pub mod states;
@@ -42,7 +43,17 @@ pub struct State {
     pub raw: Counts,
 }
 
-// A number of refusal and the state as it was given, or 0 and the state from now on.
+// The five lent slices, looked at together before a call writes to any.
+#[derive(Clone, Copy)]
+pub struct Files<'a> {
+    pub ledger: &'a [u8],
+    pub base: &'a [u8],
+    pub side: &'a [u8],
+    pub buffer: &'a [u8],
+    pub kinds: &'a [u8],
+}
+
+// What C is answered: a number of refusal and the state as it was given, or 0 and the state from now on.
 #[repr(C)]
 #[derive(Clone, Copy)]
 pub struct Answer {

@@ -4,15 +4,14 @@ ghost use Rattle.std.specs.Prelude.{◌≡◌, ◌+◌, ◌*◌, ◌≤◌, leng
 ghost use Rattle.octets.specs.Part.{lay};
 ghost use Rattle.recorder.specs.Calls.{span_in, laid_in};
 
-use sidefile::wide;
-
 // The bytes at an offset, as many as `into` has room for.
 pub fn read_span(from: &[u8], k: usize, size: u32, offset: u32, into: &mut [u8])
     requires { k * size + offset + length into.old ≤ length from.now }
     ensures { into.new ≡ span_in size from.now k offset (length into.old) }
 {
+    let at = k * size as usize + offset as usize;
     let n = into.len();
-    octets::copy(from, k * wide(size) + wide(offset), into, 0, n);
+    octets::copy(from, at, into, 0, n);
 }
 
 // The bytes laid over it at an offset.
@@ -20,12 +19,13 @@ pub fn write_span(bytes: &[u8], into: &mut [u8], k: usize, size: u32, offset: u3
     requires { k * size + offset + length bytes.now ≤ length into.old }
     ensures { into.new ≡ laid_in size into.old k offset bytes.now }
 {
-    octets::copy(bytes, 0, into, k * wide(size) + wide(offset), bytes.len());
+    let at = k * size as usize + offset as usize;
+    octets::copy(bytes, 0, into, at, bytes.len());
 }
 
 pub fn clear_page(into: &mut [u8], k: usize, size: u32)
     requires { k * size + size ≤ length into.old }
     ensures { into.new ≡ lay into.old (k * size) (replicate size 0) }
 {
-    octets::clear(into, k * wide(size), wide(size));
+    octets::clear(into, k * size as usize, size as usize);
 }

@@ -1,4 +1,4 @@
-// The states that the calls answer: those of an open, and a state with one thing new.
+// The states that the calls answer: those of an open, and what a call does to a state.
 ghost use Rattle.std.specs.Prelude.{◌≡◌, [], ◌+◌, ◌<◌};
 ghost use Rattle.slots.specs.inner.Asked.{Takes};
 ghost use Rattle.recorder.specs.Calls as Calls;
@@ -8,11 +8,12 @@ ghost use Rattle.recorder.specs.World.{set_end, zero_state};
 
 use crate::buffer::Use;
 use crate::{Counts, State};
-use slots::Slots;
+use slots::{Seat, Slots};
 use units::{Page, Settings, Tick};
 
 impl State {
     // The state of a refused open.
+    #[tactic(auto, unfolding(crate::specs::World::zero_state))]
     pub fn zero() -> State
         ensures { result ≡ zero_state }
     {
@@ -33,6 +34,7 @@ impl State {
     }
 
     // The state of an accepted open.
+    #[tactic(auto, unfolding(crate::specs::Calls::open_state))]
     pub fn first(settings: Settings, end: u32, tick: Tick) -> State
         ensures { result ≡ Calls.open_state settings end tick.0 }
     {
@@ -47,77 +49,54 @@ impl State {
         }
     }
 
-    // With a raw access counted.
-    pub fn raw_bypass(self) -> State
-        ensures { result ≡ (Calls.raw_bypass (lent self [] [] [] [] [])).state }
+    // A raw access is counted.
+    #[tactic(auto, unfolding(crate::specs::Calls::raw_bypass))]
+    pub fn raw_bypass(&mut self)
+        ensures { self.new ≡ (Calls.raw_bypass (lent self.old [] [] [] [] [])).state }
     {
-        let counts = self.raw;
-        State {
-            raw: counts.bypass(),
-            ..self
-        }
+        self.raw = self.raw.bypass();
     }
 
-    // With a metadata read counted that found no slot.
-    pub fn meta_bypass(self) -> State
-        ensures { result ≡ (Calls.meta_bypass (lent self [] [] [] [] [])).state }
+    // A metadata read is counted that found no slot.
+    #[tactic(auto, unfolding(crate::specs::Calls::meta_bypass))]
+    pub fn meta_bypass(&mut self)
+        ensures { self.new ≡ (Calls.meta_bypass (lent self.old [] [] [] [] [])).state }
     {
-        let counts = self.meta;
-        State {
-            meta: counts.bypass(),
-            ..self
-        }
+        self.meta = self.meta.bypass();
     }
 
-    // With a page used in its slot, and counted.
-    pub fn used(self, used: Use, page: Page) -> State
-        requires { Using.Places used page.0 self.slots }
-        ensures { result ≡ Using.used_state used page.0 self }
+    // A page is used in its slot, and counted.
+    pub fn used(&mut self, used: Use, page: Page)
+        requires { Using.Places used page.0 self.old.slots }
+        ensures { self.new ≡ Using.used_state used page.0 self.old }
     {
-        let table = self.slots;
-        let counts = self.meta;
-        State {
-            slots: used.place(table, page),
-            meta: counts.used(used.hit, used.evicts),
-            ..self
-        }
+        self.slots = used.place(self.slots, page);
+        self.meta = self.meta.used(used);
     }
 
-    // With the page in a slot changed.
-    pub fn changed(self, slot: usize) -> State
+    // The page in a slot is changed.
+    pub fn changed(&mut self, slot: usize)
         requires { slot < 16 }
-        ensures { result ≡ Using.changed_state slot self }
+        ensures { self.new ≡ Using.changed_state slot self.old }
     {
-        let table = self.slots;
-        State {
-            slots: table.mark(slot),
-            ..self
-        }
+        self.slots = self.slots.mark(slot);
     }
 
-    // With one page more, a raw one.
-    pub fn grown(self) -> State
-        requires { self.end < 4294967295 }
-        ensures { result ≡ set_end (self.end + 1) self }
+    // There is one page more, a raw one.
+    pub fn grown(&mut self)
+        requires { self.old.end < 4294967295 }
+        ensures { self.new ≡ set_end (self.old.end + 1) self.old }
     {
-        State {
-            end: self.end + 1,
-            ..self
-        }
+        self.end += 1;
     }
 
-    // With one page more, a metadata one, changed in the slot that it takes.
-    pub fn seated(self, slot: usize, evicts: bool) -> State
-        requires { (self.end < 4294967295) × Takes slot «evicts» self.slots }
-        ensures { result ≡ Using.seated_state slot «evicts» self }
+    // There is one page more, a metadata one, changed in the slot that it takes.
+    pub fn seated(&mut self, seat: Seat)
+        requires { (self.old.end < 4294967295) × Takes seat.slot seat.evicts self.old.slots }
+        ensures { self.new ≡ Using.seated_state seat self.old }
     {
-        let table = self.slots;
-        let counts = self.meta;
-        State {
-            end: self.end + 1,
-            slots: table.take(slot, evicts, Page(self.end)).mark(slot),
-            meta: counts.eviction(evicts),
-            ..self
-        }
+        self.slots = self.slots.take(seat, Page(self.end)).mark(seat.slot);
+        self.meta = self.meta.eviction(seat.evicts);
+        self.end += 1;
     }
 }

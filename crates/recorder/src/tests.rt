@@ -1,150 +1,98 @@
-// What each call asks, in the order of document 01: a number of refusal, or 0.
-ghost use Rattle.std.specs.Prelude.{◌≡◌, [], ◌≤◌, ltb, length, take};
-ghost use Rattle.lists.specs.Scans.{all_of};
+// What each call asks, in the order of document 01.
+ghost use Rattle.std.specs.Prelude.{◌≡◌, [], ◌≤◌, ltb, length, get_or, IfOk};
+ghost use Rattle.std.specs.List.{list_all};
+ghost use Rattle.units.specs.Refusals as Refusals;
 ghost use Rattle.units.specs.Tests.{verdict};
 ghost use Rattle.recorder.specs.Calls as Calls;
 ghost use Rattle.recorder.specs.Outcome.{lent};
-ghost use Rattle.recorder.specs.inner.Tests.{access_tests, growth_tests, early_tests};
+ghost use Rattle.recorder.specs.inner.Kinds.{number_of};
+ghost use Rattle.recorder.specs.inner.Tests.{access_tests, growth_tests, early_tests, among};
 ghost use Rattle.recorder.specs.World.{zero_state};
 
-use crate::{State, judge};
-use sidefile::wide;
-use units::{Page, Settings, refusal};
+use crate::kinds::Kind;
+use crate::{Files, State, judge};
+use units::{Page, Refusal, Settings};
 
-const RAW: u8 = 1;
-
-// The kind bytes below e are 0 or 1.
-fn kinds_known(kinds: &[u8], end: usize) -> bool
-    requires { end ≤ length kinds.now }
-    ensures { result ≡ all_of (λ k. ltb k 2) (take end kinds.now) }
+// The kind bytes are those of kinds.
+fn kinds_known(kinds: &[u8]) -> bool
+    ensures { result ≡ list_all (λ k. ltb k 2) kinds.now }
 {
-    let mut i: usize = 0;
-    while i < end {
-        if RAW < kinds[i] {
-            return false;
-        }
-        i += 1;
-    }
-    true
+    kinds.iter().all(|&byte| byte < 2)
 }
 
-// Open: 1, 2, 5 or 0.
-pub fn opens(
-    settings: Settings,
-    end: u32,
-    tick: u32,
-    ledger: &[u8],
-    base: &[u8],
-    side: &[u8],
-    buffer: &[u8],
-    kinds: &[u8],
-) -> u32
-    ensures { result ≡ verdict (Calls.open_tests settings end tick (lent zero_state ledger.now base.now side.now buffer.now kinds.now)) }
+// Open: 1, 2 or 5.
+#[tactic(auto, using(crate::proofs::Passes::all_listed, crate::proofs::Judging::long_kinds), unfolding(crate::specs::Calls::open_tests, units::specs::Tests::verdict))]
+pub fn opens(settings: Settings, end: u32, tick: u32, files: &Files) -> Result<(), Refusal>
+    ensures { Refusals.number result ≡ verdict (Calls.open_tests settings end tick (among files.now zero_state)) }
 {
-    if !settings.within_limits() {
-        return refusal::SETTINGS;
+    if !settings.within_limits() || settings.capacity < end {
+        return Err(Refusal::Settings);
     }
-    if settings.capacity < end {
-        return refusal::SETTINGS;
+    if !judge::long_enough(settings, files) || files.ledger.len() < settings.ledger_length() {
+        return Err(Refusal::Short);
     }
-    if !judge::long_enough(settings, base, side, buffer, kinds) {
-        return refusal::SHORT;
+    if !kinds_known(&files.kinds[..end as usize]) {
+        return Err(Refusal::Kind);
     }
-    if ledger.len() < settings.ledger_length() {
-        return refusal::SHORT;
-    }
-    if !kinds_known(kinds, wide(end)) {
-        return refusal::KIND;
-    }
-    0
+    Ok(())
 }
 
-// The page and the span of a read or write: 4, 5, 6 or 0. The kind table reaches up to e.
-fn spans(state: State, kinds: &[u8], page: Page, offset: u32, n: usize) -> u32
-    requires { state.end ≤ length kinds.now }
-    ensures { result ≡ verdict (Calls.span_tests (lent state [] [] [] [] kinds.now) page.0 offset n) }
+// The page and the span of a read or write: 4, 5 or 6, else the page's kind. The kind table reaches up to e.
+#[tactic(auto, unfolding(crate::specs::Calls::span_tests, units::specs::Tests::verdict))]
+fn spans(state: &State, kinds: &[u8], page: Page, offset: u32, n: usize) -> Result<Kind, Refusal>
+    requires { state.now.end ≤ length kinds.now }
+    ensures number { Refusals.number result ≡ verdict (Calls.span_tests (lent state.now [] [] [] [] kinds.now) page.0 offset n) }
+    ensures kind { IfOk result (λ kind. number_of kind ≡ get_or kinds.now page.0 0) }
 {
     if state.end <= page.0 {
-        return refusal::PAGE;
+        return Err(Refusal::Page);
     }
-    if RAW < kinds[wide(page.0)] {
-        return refusal::KIND;
+    let kind = Kind::try_from(u32::from(kinds[page.0 as usize]))?;
+    let size = state.settings.size;
+    if n < 1 || size < offset || n > (size - offset) as usize {
+        return Err(Refusal::Span);
     }
-    if n < 1 {
-        return refusal::SPAN;
-    }
-    if state.settings.size < offset {
-        return refusal::SPAN;
-    }
-    if wide(state.settings.size - offset) < n {
-        return refusal::SPAN;
-    }
-    0
+    Ok(kind)
 }
 
-// Read and write of n bytes, but for 7: 3, 2, 4, 5, 6 or 0.
+// Read and write of n bytes, but for 7: 3, 2, 4, 5 or 6, else the page's kind.
+#[tactic(auto, using(crate::proofs::Testing::stands_refused, crate::proofs::Testing::stands_behind, crate::proofs::Testing::stands_kinds), unfolding(crate::specs::Calls::span_tests))]
 pub fn accesses(
-    state: State,
-    ledger: &[u8],
-    base: &[u8],
-    side: &[u8],
-    buffer: &[u8],
-    kinds: &[u8],
+    state: &State,
+    files: &Files,
     page: Page,
     offset: u32,
     n: usize,
-) -> u32
-    ensures { result ≡ verdict (access_tests (lent state ledger.now base.now side.now buffer.now kinds.now) page.0 offset n) }
+) -> Result<Kind, Refusal>
+    ensures number { Refusals.number result ≡ verdict (access_tests (among files.now state.now) page.0 offset n) }
+    ensures kind { IfOk result (λ kind. number_of kind ≡ get_or files.now.kinds.now page.0 0) }
 {
-    let number = judge::stands(state, ledger, base, side, buffer, kinds);
-    if number != 0 {
-        return number;
-    }
-    spans(state, kinds, page, offset, n)
+    judge::stands(state, files)?;
+    spans(state, files.kinds, page, offset, n)
 }
 
-// Grow, but for 7: 3, 2, 5, 8 or 0.
-pub fn grows(
-    state: State,
-    ledger: &[u8],
-    base: &[u8],
-    side: &[u8],
-    buffer: &[u8],
-    kinds: &[u8],
-    kind: u32,
-) -> u32
-    ensures { result ≡ verdict (growth_tests (lent state ledger.now base.now side.now buffer.now kinds.now) kind) }
+// Grow, but for 7: 3, 2, 5 or 8, else the kind that is named.
+#[tactic(auto, using(crate::proofs::Testing::stands_refused, crate::proofs::Testing::stands_behind), unfolding(crate::specs::Calls::grow_tests, units::specs::Tests::verdict))]
+pub fn grows(state: &State, files: &Files, kind: u32) -> Result<Kind, Refusal>
+    ensures number { Refusals.number result ≡ verdict (growth_tests (among files.now state.now) kind) }
+    ensures kind { IfOk result (λ known. number_of known ≡ kind) }
 {
-    let number = judge::stands(state, ledger, base, side, buffer, kinds);
-    if number != 0 {
-        return number;
-    }
-    if 1 < kind {
-        return refusal::KIND;
-    }
+    judge::stands(state, files)?;
+    let known = Kind::try_from(kind)?;
     if state.settings.capacity <= state.end {
-        return refusal::NO_PAGE;
+        return Err(Refusal::NoPage);
     }
-    0
+    Ok(known)
 }
 
-// Close, but for 10: 3, 2, 9 or 0.
-pub fn closes(
-    state: State,
-    ledger: &[u8],
-    base: &[u8],
-    side: &[u8],
-    buffer: &[u8],
-    kinds: &[u8],
-) -> u32
-    ensures { result ≡ verdict (early_tests (lent state ledger.now base.now side.now buffer.now kinds.now)) }
+// Close, but for 10: 3, 2 or 9.
+#[tactic(auto, using(crate::proofs::Testing::stands_refused, crate::proofs::Testing::stands_behind), unfolding(crate::specs::inner::Tests::last_tick, crate::specs::Close::close_tests, units::specs::Tests::verdict))]
+pub fn closes(state: &State, files: &Files) -> Result<(), Refusal>
+    ensures { Refusals.number result ≡ verdict (early_tests (among files.now state.now)) }
 {
-    let number = judge::stands(state, ledger, base, side, buffer, kinds);
-    if number != 0 {
-        return number;
+    judge::stands(state, files)?;
+    if state.closed.0 == u32::MAX {
+        return Err(Refusal::LastTick);
     }
-    if state.closed.0 == 4294967295 {
-        return refusal::LAST_TICK;
-    }
-    0
+    Ok(())
 }

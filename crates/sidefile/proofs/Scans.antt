@@ -3,22 +3,22 @@ use Prim.Native.Nat.{ℕ, zero, suc, ◌+◌, ◌<◌, ◌≤◌}
 use mathlib.Core.Path.{◌≡◌, refl, ◌∙◌, sym}
 use mathlib.Core.Bool.{Bool, true, false, not, ◌&&◌, ◌||◌}
 use mathlib.Core.List.{List, [], ◌∷◌}
-use native.Mathlib.Numerals.{add-one}
 use native.Mathlib.Omega.{arith}
-use lib.Dec.{eqb, ltb}
-use lib.ListN.{length, take, drop, set, get_or, replicate, length-set, length-replicate, drop_of_length-le}
-use lib.Seq.{get_or-set_same, get_or-set_other, get_or-drop, get_or-take, drop-cons}
-use borrow.Author.Tests.{eq-eqb, ne_eqb, lt-ltb, le-ltb, le-leb, lt-leb, eqb-true, eqb-false, ltb-true}
-use Rattle.lists.specs.laws.Bools.{both, and_right, and_yes}
+use lib.Dec.{eqb, ltb, leb, eqb-suc-zero, eqb-zero-suc}
+use lib.ListN.{length, drop, set, get_or, replicate, length-set, length-replicate}
+use lib.Seq.{get_or-set_same, get_or-set_other}
+use borrow.Author.Tests.{lt-ltb, le-ltb, le-leb, lt-leb, eqb-true, eqb-false, ltb-true}
+use Rattle.lists.specs.laws.Bools.{both, and_right, and_yes, and_assoc}
+use Rattle.std.specs.List.{fold}
 use Rattle.lists.specs.Scans.{any_of, all_of}
-use Rattle.octets.specs.Part.{part}
-use Rattle.octets.specs.laws.Part.{length_part}
 use Rattle.octets.specs.Rows.{row}
+use Rattle.octets.specs.inner.Flags.{flags}
+use Rattle.octets.specs.laws.Flagging.{flags_clear}
 use Rattle.units.specs.declared.Tick.{Tick}
 use Rattle.sidefile.specs.declared.IndexEntry.{IndexEntry}
 use Rattle.sidefile.specs.Encode.{index_entry_of}
 use Rattle.sidefile.specs.Judge.{ascending, apart}
-use Rattle.sidefile.specs.inner.Table.{column, entries_at, places_fit, changes_fit, position, of_page, entry_next, entries_end}
+use Rattle.sidefile.specs.inner.Table.{column, entries_at, places_fit, changes_fit, entry_next, entries_end}
 
 abbrev place : IndexEntry → ℕ
 place x = x.place.0
@@ -89,17 +89,10 @@ fresh_is most met (x ∷ xs) h =
     go false e ih = refl
 
 -- none was met
-unfoldable pub none_met : List Bool
-none_met = replicate 272 false
-
 unmet : (n k : ℕ) → get_or (replicate n false) k false ≡ false
 unmet zero k = refl
 unmet (suc n) zero = refl
 unmet (suc n) (suc k) = unmet n k
-
-pub length_none_met : length none_met ≡ 272
-unfolding none_met
-length_none_met = length-replicate 272 false
 
 all_unmet : (most n : ℕ) (xs : List IndexEntry)
     → all_of (λ x. free most (replicate n false) (place x)) xs ≡ all_of (λ x. ltb (place x) most) xs
@@ -107,9 +100,11 @@ unfolding all_of
 all_unmet most n [] = refl
 all_unmet most n (x ∷ xs) = rw (unmet n (place x), all_unmet most n xs, and_yes (ltb (place x) most))
 
-pub fresh_first : (most : ℕ) (xs : List IndexEntry) → most ≤ 272 → places_fit most xs ≡ fresh most none_met xs
-unfolding places_fit none_met
-fresh_first most xs h = sym (fresh_is most (replicate 272 false) xs (rw (length-replicate 272 false) h) ∙ rw (all_unmet most 272 xs))
+pub fresh_first : (most : ℕ) (xs : List IndexEntry) → most ≤ 272 → places_fit most xs ≡ fresh most (flags (replicate 34 0)) xs
+unfolding places_fit
+fresh_first most xs h =
+    rw (flags_clear 34)
+    (sym (fresh_is most (replicate 272 false) xs (rw (length-replicate 272 false) h) ∙ rw (all_unmet most 272 xs)))
 
 -- nothing is left
 module _ (at w n : ℕ) (xs : List ℕ) (i : ℕ) (h : n ≤ i) where
@@ -121,13 +116,10 @@ module _ (at w n : ℕ) (xs : List ℕ) (i : ℕ) (h : n ≤ i) where
   unfolding fresh
   fresh_end most met = rw (entries_end at w n xs i h)
 
+module _ (at w n : ℕ) (xs : List ℕ) (i : ℕ) (h : n ≤ i) where
   pub changed_end : (t : Tick) → changes_fit t (drop i (entries_at at w n xs)) ≡ true
   unfolding changes_fit all_of
   changed_end t = rw (entries_end at w n xs i h)
-
-  pub found_end : (p : ℕ) → position (of_page p) (drop i (entries_at at w n xs)) ≡ 0
-  unfolding position
-  found_end p = rw (entries_end at w n xs i h)
 
 -- at row i
 module _ (at w n : ℕ) (xs : List ℕ) (i : ℕ) (h : i < n) where
@@ -141,18 +133,25 @@ module _ (at w n : ℕ) (xs : List ℕ) (i : ℕ) (h : i < n) where
   next = drop (i + 1) (entries_at at w n xs)
 
   module _ (end low : ℕ) where
-    pub rising_low : column 0 (row at w i xs) < low → rising end low now ≡ false
-    unfolding rising ascending all_of index_entry_of column
-    rising_low k = rw (entry_next at w n xs i h, lt-leb low x.page.0 k)
+    abbrev p : ℕ
+    p = column 0 (row at w i xs)
 
-    pub rising_far : end ≤ column 0 (row at w i xs) → rising end low now ≡ false
+    -- the page that stands here fits, and so do those behind it
+    rising_row : rising end low now ≡ ((leb low p && ltb p end) && rising end (p + 1) next)
     unfolding rising ascending all_of index_entry_of column
-    rising_far k = rw (entry_next at w n xs i h, le-ltb x.page.0 end k) (and_right (ascending low (x ∷ next)) false refl)
+    rising_row = rw (entry_next at w n xs i h) (go (leb low p) (ascending (p + 1) next) (ltb p end) (all_of (λ y. ltb y.page.0 end) next))
+      where
+        go : (a b c d : Bool) → ((a && b) && (c && d)) ≡ ((a && c) && (b && d))
+        go true true c d = refl
+        go true false true d = refl
+        go true false false d = refl
+        go false b c d = refl
 
-    pub rising_next : low ≤ column 0 (row at w i xs) → column 0 (row at w i xs) < end
-        → rising end low now ≡ rising end (column 0 (row at w i xs) + 1) next
-    unfolding rising ascending all_of index_entry_of column
-    rising_next k l = rw (entry_next at w n xs i h, le-leb low x.page.0 k, lt-ltb x.page.0 end l)
+    pub rising_stops : (leb low p && ltb p end) ≡ false → rising end low now ≡ false
+    rising_stops k = rising_row ∙ rw k
+
+    pub rising_next : (leb low p && ltb p end) ≡ true → rising end low now ≡ rising end (p + 1) next
+    rising_next k = rising_row ∙ rw k
 
   module _ (most : ℕ) (met : List Bool) where
     pub fresh_far : most ≤ column 1 (row at w i xs) → fresh most met now ≡ false
@@ -172,43 +171,24 @@ module _ (at w n : ℕ) (xs : List ℕ) (i : ℕ) (h : i < n) where
     unfolding fresh index_entry_of column
     fresh_next k l = rw (entry_next at w n xs i h, lt-ltb (place x) most k, l)
 
-  module _ (t : Tick) where
-    pub changed_late : t.0 < column 2 (row at w i xs) → changes_fit t now ≡ false
-    unfolding changes_fit all_of index_entry_of column
-    changed_late k = rw (entry_next at w n xs i h, lt-leb x.changed.0 t.0 k)
+module _ (at w n : ℕ) (xs : List ℕ) (i : ℕ) (h : i < n) (t : Tick) where
+  pub changed_late : t.0 < column 2 (row at w i xs) → changes_fit t (drop i (entries_at at w n xs)) ≡ false
+  unfolding changes_fit all_of index_entry_of column
+  changed_late k = rw (entry_next at w n xs i h, lt-leb (index_entry_of (row at w i xs)).changed.0 t.0 k)
 
-    pub changed_next : column 2 (row at w i xs) ≤ t.0 → changes_fit t now ≡ changes_fit t next
-    unfolding changes_fit all_of index_entry_of column
-    changed_next k = rw (entry_next at w n xs i h, le-leb x.changed.0 t.0 k)
+  pub changed_next : column 2 (row at w i xs) ≤ t.0 → changes_fit t (drop i (entries_at at w n xs)) ≡ changes_fit t (drop (i + 1) (entries_at at w n xs))
+  unfolding changes_fit all_of index_entry_of column
+  changed_next k = rw (entry_next at w n xs i h, le-leb (index_entry_of (row at w i xs)).changed.0 t.0 k)
 
-  module _ (p r : ℕ) (read : r ≡ column 0 (row at w i xs)) where
-    pub found_here : r ≡ p → position (of_page p) now ≡ 0
-    unfolding position index_entry_of column
-    found_here k = rw (entry_next at w n xs i h, eq-eqb x.page.0 p (sym read ∙ k))
+-- bytes that are all zero, tested from the first to the last
+turned : (x : ℕ) → eqb x 0 ≡ eqb 0 x
+turned zero = refl
+turned (suc k) = eqb-suc-zero k ∙ sym (eqb-zero-suc k)
 
-    pub found_next : (r ≡ p → ⊥) → position (of_page p) now ≡ suc (position (of_page p) next)
-    unfolding position index_entry_of column
-    found_next k = rw (entry_next at w n xs i h, ne_eqb x.page.0 p (λ z. k (read ∙ z)))
+zero_behind : (b : Bool) (xs : List ℕ) → fold (λ clear y. clear && eqb y 0) b xs ≡ (b && all_of (eqb 0) xs)
+unfolding all_of
+zero_behind b [] = sym (and_yes b)
+zero_behind b (y ∷ xs) = rw (zero_behind (b && eqb y 0) xs, turned y) (sym (and_assoc b (eqb 0 y) (all_of (eqb 0) xs)))
 
--- bytes that are all zero: the next one, and the end
-module _ (xs : List ℕ) (at n i : ℕ) (clear : Bool) where
-  abbrev zero_from : ℕ → Bool
-  zero_from j = all_of (eqb 0) (drop j (part xs at n))
-
-  pub byte_next : i < n → at + n ≤ length xs → drop i (part xs at n) ≡ get_or xs (at + i) 0 ∷ drop (i + 1) (part xs at n)
-  unfolding part
-  byte_next h k =
-      rw (add-one i, ← get_or-drop at xs i 0, ← get_or-take n (drop at xs) i 0 h)
-      (drop-cons (take n (drop at xs)) i 0 (rw (length_part xs at n k) h))
-
-  pub zero_here : i < n → at + n ≤ length xs → get_or xs (at + i) 0 ≡ 0 → (clear && zero_from i) ≡ (clear && zero_from (i + 1))
-  unfolding all_of
-  zero_here h k e = rw (byte_next h k, e)
-
-  pub zero_not : i < n → at + n ≤ length xs → (get_or xs (at + i) 0 ≡ 0 → ⊥) → (clear && zero_from i) ≡ false
-  unfolding all_of
-  zero_not h k e = rw (byte_next h k, ne_eqb 0 (get_or xs (at + i) 0) (λ z. e (sym z))) (and_right clear false refl)
-
-  pub zero_end : n ≤ i → at + n ≤ length xs → (clear && zero_from i) ≡ clear
-  unfolding all_of
-  zero_end h k = rw (drop_of_length-le (part xs at n) {i = i} (rw (length_part xs at n k) h)) (and_yes clear)
+pub all_zero : (xs : List ℕ) → fold (λ clear y. clear && eqb y 0) true xs ≡ all_of (eqb 0) xs
+all_zero xs = zero_behind true xs

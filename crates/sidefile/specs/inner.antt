@@ -2,3 +2,4 @@
 pub mod Passed
 pub mod Sealed
 pub mod Table
+pub mod Tables

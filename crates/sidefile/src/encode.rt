@@ -6,7 +6,7 @@ ghost use Rattle.units.specs.Sizes.{header_length, index_row, limits, index_end}
 ghost use Rattle.sidefile.specs.Encode.{header_bytes, header_for, index_bytes};
 ghost use Rattle.sidefile.specs.inner.Sealed.{first_bytes, second_bytes, sealed};
 
-use crate::{Header, layout, wide};
+use crate::{Header, layout};
 use units::{Settings, Tick};
 
 // Bytes 0 to 15.
@@ -14,7 +14,7 @@ fn write_first(s: &mut [u8], header: Header)
     requires { 16 ≤ length s.old }
     ensures { s.new ≡ lay s.old 0 (first_bytes header) }
 {
-    octets::store32(s, 0, layout::MARK);
+    octets::copy(&layout::MARK, 0, s, 0, 4);
     octets::store16(s, layout::VERSION_AT, layout::VERSION);
     octets::store16(s, layout::LAG_AT, header.settings.lag);
     octets::store32(s, layout::SIZE_AT, header.settings.size);
@@ -34,6 +34,7 @@ fn write_second(s: &mut [u8], header: Header, sum: u32)
 }
 
 // `sum` is the checksum of the entries' rows.
+#[tactic(auto, unfolding(crate::specs::Encode::checksum), using(crate::proofs::Laying::headed))]
 pub fn write_header(s: &mut [u8], header: Header, sum: u32)
     requires { header_length ≤ length s.old }
     ensures { s.new ≡ lay s.old 0 (header_bytes header sum) }
@@ -45,12 +46,13 @@ pub fn write_header(s: &mut [u8], header: Header, sum: u32)
 }
 
 // The header of an index whose first n rows stand.
+#[tactic(auto, unfolding(crate::specs::inner::Sealed::sealed, octets::specs::Part::part, crate::specs::Encode::checksum))]
 pub fn seal(s: &mut [u8], settings: Settings, closed: Tick, end: u32, n: u32)
     requires { header_length + index_row * n ≤ length s.old }
     ensures { s.new ≡ sealed settings closed end n s.old }
 {
     let from = Settings::HEADER_LENGTH;
-    let to = from + Settings::INDEX_ROW * wide(n);
+    let to = from + Settings::INDEX_ROW * n as usize;
     let sum = lookup3::checksum(&s[from..to]);
     let header = Header {
         settings,
@@ -62,6 +64,7 @@ pub fn seal(s: &mut [u8], settings: Settings, closed: Tick, end: u32, n: u32)
 }
 
 // The header and an index without entries.
+#[tactic(auto, unfolding(units::specs::Sizes::index_end), using(octets::specs::laws::Part::length_lay, crate::specs::inner::Sealed::sealed_empty))]
 pub fn write_empty(s: &mut [u8], settings: Settings, closed: Tick, end: u32)
     requires { (limits settings ≡ true) × (index_end settings ≤ length s.old) }
     ensures { s.new ≡ lay s.old 0 (header_for settings closed end [] ++ index_bytes settings []) }

@@ -6,9 +6,10 @@ ghost use Rattle.sidefile.specs.Encode.{header_of};
 ghost use Rattle.sidefile.specs.Judge.{mark_tests, header_tests};
 ghost use Rattle.sidefile.specs.inner.Passed.{asks};
 
-use crate::{Header, layout, wide};
+use crate::{Header, layout};
 use units::{Settings, Tick};
 
+#[tactic(auto, unfolding(crate::specs::Encode::header_of))]
 pub fn header_of(s: &[u8]) -> Header
     requires { header_length ≤ length s.now }
     ensures { result ≡ header_of s.now }
@@ -27,59 +28,42 @@ pub fn header_of(s: &[u8]) -> Header
 }
 
 // The tests of 11.
+#[tactic(auto, unfolding(crate::specs::Judge::mark_tests, units::specs::Tests::passes))]
 pub fn well_marked(s: &[u8]) -> bool
     ensures { result ≡ passes (mark_tests s.now) }
 {
-    if s.len() < Settings::HEADER_LENGTH {
-        return false;
-    }
-    if s[0] != b'T' {
-        return false;
-    }
-    if s[1] != b'W' {
-        return false;
-    }
-    if s[2] != b'L' {
-        return false;
-    }
-    if s[3] != 0 {
-        return false;
-    }
-    octets::load16(s, layout::VERSION_AT) == layout::VERSION
+    Settings::HEADER_LENGTH <= s.len()
+        && s.starts_with(&layout::MARK)
+        && octets::load16(s, layout::VERSION_AT) == layout::VERSION
 }
 
-// n bytes are enough: for a whole side file, or for a held buffer.
+// n bytes are enough: for a whole side file, or for a held buffer. A flag and no closure: there are these two lengths and no
+// third, and the definition `asks` has the same flag.
 fn long_enough(settings: Settings, n: usize, whole: bool) -> bool
     requires { limits settings ≡ true }
     ensures { result ≡ asks whole n settings }
 {
-    if whole {
-        return settings.side_length() <= n;
-    }
-    settings.index_end() <= n
+    let least = if whole {
+        settings.side_length()
+    } else {
+        settings.index_end()
+    };
+    least <= n
 }
 
 // The tests of 12 that concern the header, for a side file of n bytes (whole) or a held buffer of n bytes.
+#[tactic(auto, unfolding(crate::specs::Judge::header_tests, units::specs::Tests::passes, crate::specs::Encode::checksum))]
 pub fn header_passes(s: &[u8], n: usize, whole: bool) -> bool
     requires { header_length ≤ length s.now }
     ensures { result ≡ passes (header_tests (asks whole n) s.now) }
 {
-    if lookup3::checksum(&s[..layout::HEADER_SUM_AT]) != octets::load32(s, layout::HEADER_SUM_AT) {
-        return false;
-    }
+    let sum = lookup3::checksum(&s[..layout::HEADER_SUM_AT]);
     let header = header_of(s);
     let settings = header.settings;
-    if !settings.within_limits() {
-        return false;
-    }
-    if octets::load16(s, layout::ZERO_AT) != 0 {
-        return false;
-    }
-    if !long_enough(settings, n, whole) {
-        return false;
-    }
-    if Settings::MOST_CAPACITY < header.end {
-        return false;
-    }
-    wide(header.entries) <= settings.entries()
+    sum == octets::load32(s, layout::HEADER_SUM_AT)
+        && settings.within_limits()
+        && octets::load16(s, layout::ZERO_AT) == 0
+        && long_enough(settings, n, whole)
+        && header.end <= Settings::MOST_CAPACITY
+        && header.entries as usize <= settings.entries()
 }

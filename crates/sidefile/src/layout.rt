@@ -2,8 +2,7 @@
 // for the definitions.
 use units::Settings;
 
-// The mark "TWL" and a zero, as one little-endian number.
-pub const MARK: u32 = 0x004c_5754;
+pub const MARK: [u8; 4] = *b"TWL\0";
 
 pub const VERSION: u32 = 1;
 
@@ -27,7 +26,8 @@ pub const INDEX_SUM_AT: usize = 28;
 
 pub const HEADER_SUM_AT: usize = 32;
 
-// Columns of 32 bits, in a row of the index and at the front of one of the ledger.
+// Columns of 32 bits, in a row of the index and at the front of one of the ledger. They are plain numbers, since the ledger's
+// rows have further columns and its places have others: an enum of them would stand in each crate.
 pub const PAGE: usize = 0;
 
 pub const PLACE: usize = 1;

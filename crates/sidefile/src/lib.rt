@@ -7,10 +7,10 @@ pub mod headers;
 pub mod judge;
 pub mod layout;
 pub mod rows;
+pub mod table;
 pub mod told;
 
-ghost use Rattle.std.specs.Prelude.{◌≡◌, ◌<◌};
-
+pub use table::Table;
 use units::{Page, Place, Settings, Tick};
 
 // What a header says. The side file does not name E, so its settings have the largest one.
@@ -29,11 +29,4 @@ pub struct IndexEntry {
     pub place: Place,
     pub changed: Tick,
     pub sum: u32,
-}
-
-// A number of the file, to count bytes or rows with.
-pub fn wide(x: u32) -> usize
-    ensures { (result ≡ x) × (result < 4294967296) }
-{
-    x as usize
 }

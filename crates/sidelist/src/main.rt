@@ -22,12 +22,8 @@ fn read_some<R: io::Read>(from: &mut R, chunk: &mut [u8]) -> io::Result<usize>
 {
     for _ in 0..0xffff_ffffu32 {
         match from.read(chunk) {
-            Ok(n) => return Ok(n),
-            Err(e) => {
-                if e.kind() != io::ErrorKind::Interrupted {
-                    return Err(e);
-                }
-            }
+            Err(e) if e.kind() == io::ErrorKind::Interrupted => {}
+            read => return read,
         }
     }
     Err(io::Error::from(io::ErrorKind::Interrupted))

@@ -1,6 +1,6 @@
 -- The order of use while a page comes last in it and another makes way: what one turn, from the end on, does to it.
 -- Assumes nothing.
-use Prim.Native.Nat.{ℕ, suc, ◌+◌, ◌<◌, ◌≤◌}
+use Prim.Native.Nat.{ℕ, suc, ◌+◌, ◌<◌}
 use mathlib.Core.Path.{◌≡◌, refl, ◌∙◌, sym, ap}
 use mathlib.Core.List.{List, [], ◌∷◌, ◌++◌, map, append_assoc}
 use mathlib.Core.Bool.{Bool, true, false}
@@ -8,15 +8,19 @@ use native.Mathlib.Numerals.{add-one}
 use native.Mathlib.Omega.{arith}
 use lib.Dec.{eqb}
 use lib.ListN.{length, take, drop, get_or, set, length-set}
-use lib.Seq.{take_all, take-suc, take-suc-set, drop-cons, set_split, take-set-le, drop-set-lt, get_or-set_same}
+use lib.Seq.{take-suc, drop-cons, set_split, take-set-le, drop-set-lt, get_or-set_same}
 use borrow.Author.Tests.{eq-eqb, ne_eqb}
 use Rattle.lists.specs.Bools.{if_then}
 use Rattle.lists.specs.laws.Maps.{map_append}
 use Rattle.units.specs.inner.Pages.{numbers_of}
 use Rattle.units.specs.declared.Page.{Page}
 use Rattle.slots.specs.Table.{to_page, without, times}
-use Rattle.slots.specs.inner.Numbers.{pages_of, pages_back}
 use Rattle.slots.specs.laws.Order.{times_here, times_next, times_last}
+
+-- the numbers of pages, and pages again
+pages_back : (l : List Page) → map to_page (map (λ p. p.0) l) ≡ l
+pages_back [] = refl
+pages_back (p ∷ ps) = ap (λ (l : List Page). p ∷ l) (pages_back ps)
 
 map_last : {A B : Type 0} (f : A → B) (l : List A) (x : A) (r : List B) → map f (l ++ (x ∷ [])) ++ r ≡ map f l ++ (f x ∷ r)
 map_last {B = B} f l x r = ap (λ (ys : List B). ys ++ r) (map_append f l (x ∷ [])) ∙ append_assoc (map f l) (f x ∷ []) r
@@ -83,15 +87,3 @@ module _ (x i j : ℕ) (o : List Page) (e : i ≡ suc j) (h : j < length o) wher
       unfolding moving
       moving_step =
           rw (last_of, without_last x (get_or o j (to_page 0)).0 (numbers_of j o) n, map_last to_page, take-set-le j o j carry (omega arith), kept)
-
--- the numbers of the first i pages stand in a list: with one more, and with all of them
-pub seats_next : (pages : List Page) (seats : List ℕ) (i : ℕ) → i < length seats → i < length pages → take i seats ≡ numbers_of i pages
-    → take (i + 1) (set seats i (get_or pages i (to_page 0)).0) ≡ numbers_of (i + 1) pages
-seats_next pages seats i h k e =
-    rw (add-one i, take-suc-set seats i (get_or pages i (to_page 0)).0 h, e) (sym (last_of 0 (suc i) i pages refl k))
-
-pub seats_all : (pages : List Page) (seats : List ℕ) (n : ℕ) → length seats ≤ n → length pages ≤ n → take n seats ≡ numbers_of n pages → pages_of seats ≡ pages
-seats_all pages seats n h k e =
-    let s : take n seats ≡ seats = take_all n seats h in
-    let p : take n pages ≡ pages = take_all n pages k in
-    ap pages_of (sym s ∙ e) ∙ ap (λ (l : List Page). pages_of (map (λ q. q.0) l)) p ∙ pages_back pages

@@ -8,8 +8,7 @@ pub mod lookup;
 pub mod moves;
 pub mod seats;
 
-ghost use Rattle.std.specs.Prelude.{◌≡◌};
-
+pub use seats::Seat;
 use units::Page;
 
 // An empty slot has the page number 4,294,967,295. A flag is set if it is not 0. The order lists the pages in the occupied
@@ -23,28 +22,7 @@ pub struct Slots {
     pub used: u32,
 }
 
-// The slot that a search found.
-#[derive(Clone, Copy)]
-pub enum Found {
-    At(usize),
-    Nothing,
-}
-
-// The slot that a page gets, and whether a page is evicted for it; or none is to be had.
-#[derive(Clone, Copy)]
-pub struct Seating {
-    pub found: bool,
-    pub slot: usize,
-    pub evicts: bool,
-}
-
 impl Slots {
-    // The page number of an empty slot.
-    pub const NO_PAGE: u32 = 4294967295;
-}
-
-fn wide(x: u32) -> usize
-    ensures { result ≡ x }
-{
-    x as usize
+    // What an empty slot has for a page.
+    pub const NO_PAGE: Page = Page(u32::MAX);
 }

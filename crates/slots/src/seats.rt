@@ -5,44 +5,42 @@ ghost use Rattle.slots.specs.Table.{seated};
 ghost use Rattle.slots.specs.inner.Answers as Answers;
 ghost use Rattle.slots.specs.inner.Asked.{Takes};
 
-use crate::{Found, Seating, Slots};
+use crate::Slots;
 use units::Page;
+
+// The slot that a page gets, and whether a page is evicted for it.
+#[derive(Clone, Copy)]
+pub struct Seat {
+    pub slot: usize,
+    pub evicts: bool,
+}
 
 impl Slots {
     // The lowest empty slot, else that of the victim. It is the same for every page.
-    pub fn seat(self, slots: usize, mask: [bool; 16]) -> Seating
+    #[tactic(auto, unfolding(crate::specs::Table::seated, crate::specs::Table::seat_in))]
+    pub fn seat(self, slots: usize, mask: [bool; 16]) -> Option<Seat>
         requires { (slots ≤ 16) × (self.used ≤ 16) }
         ensures { (p : ℕ) → result ≡ Answers.seating (seated slots (λ i. get_or mask i false) p self) }
     {
-        match self.lowest_empty(slots) {
-            Found::At(i) => Seating {
-                found: true,
-                slot: i,
+        if let Some(slot) = self.lowest_empty(slots) {
+            return Some(Seat {
+                slot,
                 evicts: false,
-            },
-            Found::Nothing => match self.victim(slots, mask) {
-                Found::At(i) => Seating {
-                    found: true,
-                    slot: i,
-                    evicts: true,
-                },
-                Found::Nothing => Seating {
-                    found: false,
-                    slot: 0,
-                    evicts: false,
-                },
-            },
+            });
         }
+        let slot = self.victim(slots, mask)?;
+        Some(Seat { slot, evicts: true })
     }
 
     // The page comes into its slot.
-    pub fn take(self, slot: usize, evicts: bool, page: Page) -> Slots
-        requires { Takes slot «evicts» self }
-        ensures { result ≡ Answers.taken slot «evicts» page.0 self }
+    pub fn take(self, seat: Seat, page: Page) -> Slots
+        requires { Takes seat.slot seat.evicts self }
+        ensures { result ≡ Answers.taken seat.slot seat.evicts page.0 self }
     {
-        if evicts {
-            return self.evict(slot, page);
+        if seat.evicts {
+            self.evict(seat.slot, page)
+        } else {
+            self.load(seat.slot, page)
         }
-        self.load(slot, page)
     }
 }

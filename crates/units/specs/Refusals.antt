@@ -1,5 +1,7 @@
 -- The numbers of refusal of document 01's table, by name. 0 is an accepted call.
-use Rattle.std.specs.Prelude.{ℕ}
+use Rattle.std.specs.Prelude.{ℕ, Result, Ok, Err}
+use Rattle.units.specs.declared.refusal.Refusal.{Refusal}
+use Rattle.units.specs.declared.refusal.Refusal.TheVariants as Reason
 
 -- open: a setting outside its limits, or e above E
 abbrev pub settings : ℕ
@@ -56,3 +58,24 @@ lag = 13
 -- an image whose checksum is wrong
 abbrev pub image : ℕ
 image = 14
+
+-- the number of a refusal, and of what a call answers
+abbrev pub code : Refusal → ℕ
+code Reason.Settings = settings
+code Reason.Short = short
+code Reason.State = state
+code Reason.Page = page
+code Reason.Kind = kind
+code Reason.Span = span
+code Reason.NoSlot = no_slot
+code Reason.NoPage = no_page
+code Reason.LastTick = last_tick
+code Reason.NoPlace = no_place
+code Reason.Foreign = foreign
+code Reason.Damaged = damaged
+code Reason.Lag = lag
+code Reason.Image = image
+
+abbrev pub number : {A : Type 0} → Result A Refusal → ℕ
+number (Ok _) = 0
+number (Err r) = code r

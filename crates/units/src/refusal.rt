@@ -1,29 +1,40 @@
-// The numbers of refusal, by name; 0 is an accepted call. Document 01's table says exactly when each is given, and
-// specs/Refusals has the same names for the definitions.
-pub const SETTINGS: u32 = 1;
+// Why a call is refused. Document 01's table says exactly when each is given; specs/Refusals has the numbers of all, and 0 of
+// a call that is done, for the definitions and for C.
+ghost use Rattle.std.specs.Prelude.{◌≡◌};
+ghost use Rattle.units.specs.Refusals as Refusals;
 
-pub const SHORT: u32 = 2;
+#[derive(Clone, Copy, Debug, PartialEq, Eq)]
+pub enum Refusal {
+    Settings = 1,
+    Short = 2,
+    State = 3,
+    Page = 4,
+    Kind = 5,
+    Span = 6,
+    NoSlot = 7,
+    NoPage = 8,
+    LastTick = 9,
+    NoPlace = 10,
+    Foreign = 11,
+    Damaged = 12,
+    Lag = 13,
+    Image = 14,
+}
 
-pub const STATE: u32 = 3;
+impl From<Refusal> for u32 {
+    ghost from_gives = { λ refusal n. n ≡ Refusals.code refusal };
 
-pub const PAGE: u32 = 4;
+    fn from(refusal: Refusal) -> u32 {
+        refusal as u32
+    }
+}
 
-pub const KIND: u32 = 5;
-
-pub const SPAN: u32 = 6;
-
-pub const NO_SLOT: u32 = 7;
-
-pub const NO_PAGE: u32 = 8;
-
-pub const LAST_TICK: u32 = 9;
-
-pub const NO_PLACE: u32 = 10;
-
-pub const FOREIGN: u32 = 11;
-
-pub const DAMAGED: u32 = 12;
-
-pub const LAG: u32 = 13;
-
-pub const IMAGE: u32 = 14;
+// The number of what a call answers.
+pub fn number(answer: Result<(), Refusal>) -> u32
+    ensures { result ≡ Refusals.number answer }
+{
+    match answer {
+        Ok(()) => 0,
+        Err(refusal) => u32::from(refusal),
+    }
+}

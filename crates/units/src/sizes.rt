@@ -4,31 +4,16 @@ ghost use Rattle.units.specs.Sizes as Sizes;
 
 use crate::{Place, Settings};
 
-fn wide(x: u32) -> usize
-    ensures { (result ≡ x) × (result < 4294967296) }
-{
-    x as usize
-}
-
 fn between(least: u32, most: u32, n: u32) -> bool
     ensures { result ≡ Sizes.between least most n }
 {
-    least <= n && n <= most
+    (least..=most).contains(&n)
 }
 
 fn known_size(p: u32) -> bool
     ensures { result ≡ Sizes.page_size p }
 {
-    if p == Settings::LEAST_PAGE_SIZE {
-        return true;
-    }
-    if p == 1024 {
-        return true;
-    }
-    if p == 2048 {
-        return true;
-    }
-    p == Settings::MOST_PAGE_SIZE
+    matches!(p, 512 | 1024 | 2048 | 4096)
 }
 
 impl Settings {
@@ -63,26 +48,22 @@ impl Settings {
 
     pub const PLACE_ROW: usize = 8;
 
+    #[tactic(auto, unfolding(crate::specs::Sizes::limits))]
     pub fn within_limits(self) -> bool
         ensures { result ≡ Sizes.limits self }
     {
-        if !known_size(self.size) {
-            return false;
-        }
-        if !between(Settings::LEAST_SLOTS, Settings::MOST_SLOTS, self.slots) {
-            return false;
-        }
-        if !between(Settings::LEAST_LAG, Settings::MOST_LAG, self.lag) {
-            return false;
-        }
-        between(
-            Settings::LEAST_CAPACITY,
-            Settings::MOST_CAPACITY,
-            self.capacity,
-        )
+        known_size(self.size)
+            && between(Settings::LEAST_SLOTS, Settings::MOST_SLOTS, self.slots)
+            && between(Settings::LEAST_LAG, Settings::MOST_LAG, self.lag)
+            && between(
+                Settings::LEAST_CAPACITY,
+                Settings::MOST_CAPACITY,
+                self.capacity,
+            )
     }
 
     // The ticks that the ages count by.
+    #[tactic(auto, unfolding(crate::specs::Sizes::wait))]
     pub fn wait(self) -> u32
         ensures { result ≡ Sizes.wait self }
     {
@@ -90,22 +71,25 @@ impl Settings {
     }
 
     // X.
+    #[tactic(auto, unfolding(crate::specs::Sizes::entries, crate::specs::Sizes::wait), using(crate::specs::laws::Bounds::limits_within, crate::specs::laws::Bounds::entries_most))]
     pub fn entries(self) -> usize
         requires { Sizes.limits self ≡ true }
         ensures { (result ≡ Sizes.entries self) × (result ≤ 144) }
     {
-        (wide(self.wait()) + 1) * wide(self.slots)
+        (self.wait() as usize + 1) * self.slots as usize
     }
 
     // M.
+    #[tactic(auto, unfolding(crate::specs::Sizes::places, crate::specs::Sizes::wait), using(crate::specs::laws::Bounds::limits_within, crate::specs::laws::Bounds::places_most))]
     pub fn places(self) -> usize
         requires { Sizes.limits self ≡ true }
         ensures { (result ≡ Sizes.places self) × (result ≤ 272) }
     {
-        (2 * wide(self.wait()) + 1) * wide(self.slots)
+        (2 * self.wait() as usize + 1) * self.slots as usize
     }
 
     // Where the index ends in a side file.
+    #[tactic(auto, unfolding(crate::specs::Sizes::index_end))]
     pub fn index_end(self) -> usize
         requires { Sizes.limits self ≡ true }
         ensures { (result ≡ Sizes.index_end self) × (result ≤ 2340) }
@@ -122,45 +106,51 @@ impl Settings {
     }
 
     // Where image place 0 begins: the end of the index, rounded up to whole pages.
+    #[tactic(auto, unfolding(crate::specs::Sizes::first_image), using(crate::specs::laws::Bounds::limits_within, crate::specs::laws::Bounds::size_some, crate::specs::laws::Bounds::first_image_most))]
     pub fn first_image(self) -> usize
         requires { Sizes.limits self ≡ true }
         ensures { (result ≡ Sizes.first_image self) × (result ≤ 6435) }
     {
-        let p = wide(self.size);
+        let p = self.size as usize;
         (self.index_end() + (p - 1)) / p * p
     }
 
     // Where an image place begins.
+    #[tactic(auto, unfolding(crate::specs::Sizes::image_at), using(crate::specs::laws::Bounds::limits_within, crate::specs::laws::Bounds::pages_most))]
     pub fn image_at(self, place: Place) -> usize
         requires { Sizes.limits self ≡ true }
         ensures { (result ≡ Sizes.image_at self place) × (result < 17592186050850) }
     {
-        self.first_image() + wide(place.0) * wide(self.size)
+        self.first_image() + place.0 as usize * self.size as usize
     }
 
     // The end of image place M - 1: how long a side file is at least.
+    #[tactic(auto, unfolding(crate::specs::Sizes::side_length), using(crate::specs::laws::Bounds::limits_within, crate::specs::laws::Bounds::places_most, crate::specs::laws::Bounds::pages_most))]
     pub fn side_length(self) -> usize
         requires { Sizes.limits self ≡ true }
         ensures { (result ≡ Sizes.side_length self) × (result ≤ 1120547) }
     {
-        self.first_image() + self.places() * wide(self.size)
+        self.first_image() + self.places() * self.size as usize
     }
 
+    #[tactic(auto, unfolding(crate::specs::Sizes::base_length), using(crate::specs::laws::Bounds::limits_within, crate::specs::laws::Bounds::pages_most))]
     pub fn base_length(self) -> usize
         requires { Sizes.limits self ≡ true }
         ensures { (result ≡ Sizes.base_length self) × (result ≤ 268431360) }
     {
-        wide(self.capacity) * wide(self.size)
+        self.capacity as usize * self.size as usize
     }
 
+    #[tactic(auto, unfolding(crate::specs::Sizes::buffer_length), using(crate::specs::laws::Bounds::limits_within, crate::specs::laws::Bounds::pages_most))]
     pub fn buffer_length(self) -> usize
         requires { Sizes.limits self ≡ true }
         ensures { (result ≡ Sizes.buffer_length self) × (result ≤ 65536) }
     {
-        wide(self.slots) * wide(self.size)
+        self.slots as usize * self.size as usize
     }
 
     // Where the ledger's places begin, behind its entries.
+    #[tactic(auto, unfolding(crate::specs::Sizes::places_at))]
     pub fn places_at(self) -> usize
         requires { Sizes.limits self ≡ true }
         ensures { (result ≡ Sizes.places_at self) × (result ≤ 2880) }
@@ -168,6 +158,7 @@ impl Settings {
         Settings::ENTRY_ROW * self.entries()
     }
 
+    #[tactic(auto, unfolding(crate::specs::Sizes::ledger_length))]
     pub fn ledger_length(self) -> usize
         requires { Sizes.limits self ≡ true }
         ensures { (result ≡ Sizes.ledger_length self) × (result ≤ 5056) }

@@ -11,8 +11,8 @@ fn pattern() -> [u8; 4096]
     ensures { 4096 ≡ length result }
 {
     let mut bytes = [0u8; 4096];
-    for i in 0..4096usize {
-        bytes[i] = ((7 * i + 13 * (i / 256)) % 256) as u8;
+    for (i, byte) in bytes.iter_mut().enumerate() {
+        *byte = ((7 * i + 13 * (i / 256)) % 256) as u8;
     }
     bytes
 }
@@ -66,25 +66,29 @@ fn published(rt: &impl Print) -> io::Result<()> {
 fn runs(rt: &impl Print, bytes: &[u8]) -> io::Result<()>
     requires { 4096 ≤ length bytes.now }
 {
-    let h = run(rt, bytes, 0, 50, 0)?;
-    let h = run(rt, bytes, 51, 100, h)?;
-    let h = run(rt, bytes, 101, 150, h)?;
-    let h = run(rt, bytes, 151, 200, h)?;
-    let h = run(rt, bytes, 201, 250, h)?;
-    let h = run(rt, bytes, 251, 300, h)?;
-    run(rt, bytes, 4001, 4096, h)?;
+    let lengths = [
+        (0, 50),
+        (51, 100),
+        (101, 150),
+        (151, 200),
+        (201, 250),
+        (251, 300),
+        (4001, 4096),
+    ];
+    let mut hash = 0;
+    for (from, to) in lengths {
+        hash = run(rt, bytes, from, to, hash)?;
+    }
     Ok(())
 }
 
 fn singles(rt: &impl Print, bytes: &[u8]) -> io::Result<()>
     requires { 4096 ≤ length bytes.now }
 {
-    single(rt, bytes, 512)?;
-    single(rt, bytes, 1000)?;
-    single(rt, bytes, 1024)?;
-    single(rt, bytes, 2048)?;
-    single(rt, bytes, 4095)?;
-    single(rt, bytes, 4096)
+    for n in [512, 1000, 1024, 2048, 4095, 4096] {
+        single(rt, bytes, n)?;
+    }
+    Ok(())
 }
 
 fn main(rt: HostRuntime) -> io::Result<()> {

@@ -26,9 +26,9 @@ among cs p = any_of (eqb p) cs
 unfoldable pub is_old : ℕ → Tick → Entry → Bool
 is_old wait N e = Ages.leaves wait e.changed false N
 
--- the numbers of the entry ticks of changed pages: those of their entries, or N
-unfoldable pub entry_ticks : Tick → List Entry → List ℕ → List ℕ
-entry_ticks N es cs = map (λ p. (entered_or N (find p es)).0) cs
+-- the entry ticks of changed pages: those of their entries, or N
+unfoldable pub entry_ticks : Tick → List Entry → List ℕ → List Tick
+entry_ticks N es cs = map (λ p. entered_or N (find p es)) cs
 
 -- the pages that pass a test are those among which a page is if it passes
 pub among_kept : (t : ℕ → Bool) (end : ℕ) → ((p : ℕ) → end ≤ p → t p ≡ false) → (p : ℕ) → among (keep t (below end)) p ≡ t p

@@ -1,7 +1,7 @@
 -- What the code of a close makes is what the definitions ask for: arrays are lists, flags are tests, tables are scans. A proof
 -- about a close cites these laws of `Closing` and looks no further. Assumes nothing.
 use Rattle.std.specs.Prelude.{ℕ, ◌+◌, ◌<◌, ◌≤◌, ◌≡◌, refl, true, false, ◌⊎◌, eqb, length, take, get_or}
-use Rattle.std.proofs.Common.{◌∙◌, sym, inl, inr, arith, get_or-take, ext_get_or, eq-eqb, ne_eqb}
+use Rattle.std.proofs.Common.{◌∙◌, sym, inl, inr, arith, get_or-take, length-take-le, ext_get_or, eq-eqb, ne_eqb}
 use Rattle.std.proofs.Math.Path.{ap}
 use Rattle.std.proofs.Math.Bool.{Bool}
 use mathlib.Core.List.{List, map}
@@ -14,7 +14,10 @@ use Rattle.lists.specs.laws.Scans.{every_map, any_keep}
 use Rattle.octets.specs.Part.{lay}
 use Rattle.units.specs.Ages as Ages
 use Rattle.units.specs.Sizes.{entries, places}
+use Rattle.units.specs.declared.Page.{Page}
+use Rattle.units.specs.declared.Place.{Place}
 use Rattle.units.specs.declared.Tick.{Tick}
+use Rattle.units.specs.inner.Pages.{numbers_of}
 use Rattle.sidefile.specs.Judge.{ascending, apart}
 use Rattle.ledger.specs.declared.Entry.{Entry}
 use Rattle.ledger.specs.View.{indexed, entries_in}
@@ -27,6 +30,7 @@ use Rattle.ledger.specs.laws.Closing.{Closing, now, wait_of, gives, new_of, stay
 use Rattle.ledger.specs.laws.Due.{due_in, due_of}
 use Rattle.ledger.specs.laws.Guarded.{ledger_later}
 use Rattle.ledger.specs.inner.Changed.{entry_ticks}
+use Rattle.ledger.specs.inner.Numbers.{place_numbers, number_at}
 use Rattle.ledger.specs.inner.Flagged.{picked, others, picked_keep, others_keep}
 use Rattle.ledger.specs.inner.Tables.{held_by, row_after, rows_after, row_after_lem, table_get}
 use Rattle.ledger.specs.inner.Renewed.{fresh_at, fresh_of, Settles, Renews, later_in, places_later, renewed, is_due_now}
@@ -34,8 +38,8 @@ use Rattle.ledger.specs.inner.Renewed.{fresh_at, fresh_of, Settles, Renews, late
 -- Arrays of new entries.
 
 -- the pages, their places, the checksums of their images and their entry ticks make the new entries of these pages and places
-pub fresh_arrays : (N : Tick) (es : List Entry) (sum : ℕ → ℕ) (cs qs pages given sums entered : List ℕ) (k : ℕ)
-    → length cs ≡ k → length cs ≤ length qs → take k pages ≡ cs → take k given ≡ take k qs → take k sums ≡ map sum cs → take k entered ≡ entry_ticks N es cs
+pub fresh_arrays : (N : Tick) (es : List Entry) (sum : ℕ → ℕ) (cs qs : List ℕ) (pages : List Page) (given : List Place) (sums : List ℕ) (entered : List Tick) (k : ℕ)
+    → length cs ≡ k → length cs ≤ length qs → numbers_of k pages ≡ cs → place_numbers k given ≡ take k qs → take k sums ≡ map sum cs → take k entered ≡ entry_ticks N es cs
     → fresh_of N pages given sums entered k ≡ map (fresh N es sum) (zip cs qs)
 unfolding fresh_of fresh_at fresh entry_ticks
 fresh_arrays N es sum cs qs pages given sums entered k c m p q s t =
@@ -49,20 +53,21 @@ fresh_arrays N es sum cs qs pages given sums entered k c m p q s t =
     len : length (map new (below k)) ≡ k
     len = length-map (below k) new ∙ length_from 0 k
 
-    taken : (l : List ℕ) (i : ℕ) → i < k → get_or l i 0 ≡ get_or (take k l) i 0
-    taken l i h = sym (get_or-take k l i 0 h)
+    taken : {A : Type 0} (d : A) (l xs : List A) → take k l ≡ xs → (i : ℕ) → i < k → get_or l i d ≡ get_or xs i d
+    taken {A} d l xs e i h = sym (get_or-take k l i d h) ∙ ap (λ (r : List A). get_or r i d) e
 
     one : (i : ℕ) → i < k → get_or (map new (below k)) i (new 0) ≡ get_or (map (fresh N es sum) (zip cs qs)) i (new 0)
     one i h =
-        let page : get_or pages i 0 ≡ get_or cs i 0 = taken pages i h ∙ ap (λ (l : List ℕ). get_or l i 0) p in
-        let place : get_or given i 0 ≡ get_or qs i 0 = taken given i h ∙ ap (λ (l : List ℕ). get_or l i 0) q ∙ sym (taken qs i h) in
-        let total : get_or sums i 0 ≡ sum (get_or cs i 0) =
-        taken sums i h ∙ ap (λ (l : List ℕ). get_or l i 0) s ∙ get_map sum 0 0 i cs (omega arith) in
-        let tick : get_or entered i 0 ≡ (entered_or N (find (get_or cs i 0) es)).0 =
-        taken entered i h ∙ ap (λ (l : List ℕ). get_or l i 0) t ∙ get_map (λ x. (entered_or N (find x es)).0) 0 0 i cs (omega arith) in
+        let page : (get_or pages i (record { 0 = 0 })).0 ≡ get_or cs i 0 =
+        sym (number_at (λ x. x.0) k pages (record { 0 = 0 }) i (rw (p, c) h)) ∙ ap (λ (l : List ℕ). get_or l i 0) p in
+        let place : (get_or given i (record { 0 = 0 })).0 ≡ get_or qs i 0 =
+        sym (number_at (λ x. x.0) k given (record { 0 = 0 }) i (rw (q, length-take-le k qs (omega arith)) h)) ∙ ap (λ (l : List ℕ). get_or l i 0) q ∙ get_or-take k qs i 0 h in
+        let total : get_or sums i 0 ≡ sum (get_or cs i 0) = taken 0 sums (map sum cs) s i h ∙ get_map sum 0 0 i cs (omega arith) in
+        let came : get_or entered i (record { 0 = 0 }) ≡ entered_or N (find (get_or cs i 0) es) =
+        taken (record { 0 = 0 }) entered (entry_ticks N es cs) t i h ∙ get_map (λ x. entered_or N (find x es)) 0 (record { 0 = 0 }) i cs (omega arith) in
         let z : 0 + i ≡ i = omega arith in
         get_from new (new 0) 0 k i h ∙ ap new z
-        ∙ (λ j. record { page = record { 0 = page j }; place = record { 0 = place j }; changed = N; sum = total j; entered = record { 0 = tick j } })
+        ∙ (λ j. record { page = record { 0 = page j }; place = record { 0 = place j }; changed = N; sum = total j; entered = came j })
         ∙ sym (get_zip (fresh N es sum) (new 0) i cs qs (omega arith) (omega arith))
 
 -- The ledger of a close.

@@ -1,15 +1,15 @@
 -- Laws of flags in bytes: how many there are, that zeros are no flags, and which bit of which byte flag i is, read and set.
 -- Assumes nothing.
-use Prim.Native.Nat.{ℕ, zero, suc, ◌+◌, ◌*◌, ◌/◌, ◌%◌, ◌^◌, ◌<◌}
+use Prim.Native.Nat.{ℕ, zero, suc, ◌+◌, ◌-◌, ◌*◌, ◌/◌, ◌%◌, ◌^◌, ◌<◌}
 use Rattle.std.specs.Prelude.{◌≡◌, eqb, length, get_or, set, replicate}
 use Rattle.std.proofs.Math.Path.{refl}
 use Rattle.std.proofs.Common.{◌∙◌, sym, ap, le_of_suc-le-suc, not-suc-le-zero, pow-suc, mul_comm, div-one, length-append}
 use Rattle.std.proofs.Math.Bool.{true, false}
-use mathlib.Core.List.{List, [], ◌∷◌, ◌++◌}
+use mathlib.Core.List.{List, [], ◌∷◌}
 use Rattle.std.proofs.Math.Nat.{div-div-eq-div-mul, zero-div}
 use native.Mathlib.Omega.{arith}
 use Rattle.std.specs.Int.Bits.{bit_or, or_step, or_zero_r}
-use Rattle.std.proofs.lemmas.List.{replicate-append-replicate, set-append_left}
+use Rattle.std.proofs.lemmas.List.{replicate-append-replicate, get_or-append_right, set-append_left, set-append_right}
 use Rattle.std.proofs.Math.ListN.{get_or-append}
 use Rattle.octets.specs.inner.Flags.{bits, flags}
 
@@ -62,18 +62,6 @@ bit_set (suc n) (suc k) b h =
     let q : bit_or b (2 ^ suc k) / 2 ≡ bit_or (b / 2) (2 ^ k) = omega (arith, or_high k b) in
     rw (r, q, bit_set n k (b / 2) (le_of_suc-le-suc h))
 
--- an element behind xs, read and set
-module _ {A : Type 0} (ys : List A) (n : ℕ) (v : A) where
-  get_behind : (xs : List A) (i : ℕ) → i ≡ length xs + n → get_or (xs ++ ys) i v ≡ get_or ys n v
-  get_behind [] i e = ap (λ (j : ℕ). get_or ys j v) (omega arith)
-  get_behind (x ∷ xs) zero e = absurd (omega arith)
-  get_behind (x ∷ xs) (suc i) e = get_behind xs i (omega arith)
-
-  set_behind : (xs : List A) (i : ℕ) → i ≡ length xs + n → set (xs ++ ys) i v ≡ xs ++ set ys n v
-  set_behind [] i e = ap (λ (j : ℕ). set ys j v) (omega arith)
-  set_behind (x ∷ xs) zero e = absurd (omega arith)
-  set_behind (x ∷ xs) (suc i) e = ap (λ (r : List A). x ∷ r) (set_behind xs i (omega arith))
-
 -- flag 8 * q + k is bit k of byte q
 module _ (k : ℕ) (h : k < 8) where
   pub flag_read : (s : List ℕ) (q i : ℕ) → i ≡ 8 * q + k → get_or (flags s) i false ≡ eqb (get_or s q 0 / 2 ^ k % 2) 1
@@ -83,7 +71,7 @@ module _ (k : ℕ) (h : k < 8) where
       let z : i ≡ k = omega arith in
       rw z (get_or-append (bits 8 b) (flags s) false k (omega (arith, length_bits 8 b)) ∙ bit_read 8 k b h)
   flag_read (b ∷ s) (suc q) i e =
-      get_behind (flags s) (8 * q + k) false (bits 8 b) i (omega (arith, length_bits 8 b)) ∙ flag_read s q (8 * q + k) refl
+      get_or-append_right (bits 8 b) (flags s) 8 i false (length_bits 8 b) (omega arith) ∙ flag_read s q (i - 8) (omega arith)
 
   pub flag_set : (s : List ℕ) (q i : ℕ) → i ≡ 8 * q + k → flags (set s q (bit_or (get_or s q 0) (2 ^ k))) ≡ set (flags s) i true
   unfolding flags
@@ -92,4 +80,4 @@ module _ (k : ℕ) (h : k < 8) where
       let z : i ≡ k = omega arith in
       rw (z, bit_set 8 k b h) (sym (set-append_left (bits 8 b) (flags s) k true (omega (arith, length_bits 8 b))))
   flag_set (b ∷ s) (suc q) i e =
-      rw (flag_set s q (8 * q + k) refl) (sym (set_behind (flags s) (8 * q + k) true (bits 8 b) i (omega (arith, length_bits 8 b))))
+      rw (flag_set s q (i - 8) (omega arith)) (sym (set-append_right (bits 8 b) (flags s) 8 i true (length_bits 8 b) (omega arith)))

@@ -86,7 +86,7 @@ pub le_none : (xs : List ℕ) → le 0 xs ≡ 0
 unfolding le
 le_none xs = refl
 
--- the numbers of two and of four bytes, as the code joins them
+-- the numbers of two and of four bytes, byte by byte
 pub le_two : (xs : List ℕ) (a : ℕ) → a + 2 ≤ length xs → le16 xs a ≡ get_or xs a 0 + get_or xs (a + 1) 0 * 256
 le_two xs a h =
     omega (

@@ -4,10 +4,12 @@ use Prim.Native.Nat.{ℕ, zero, suc, ◌+◌, ◌-◌, ◌<◌, ◌≤◌}
 use Rattle.std.specs.Prelude.{◌≡◌, drop, get_or, set}
 use Rattle.std.proofs.Math.Path.{refl, sym, ap}
 use Rattle.std.proofs.Common.{◌∙◌, le_of_suc-le-suc, not-suc-le-zero, add-one, length-take, length-drop, take-suc, drop-cons, take_all}
-use mathlib.Core.List.{List, [], ◌∷◌, ◌++◌}
+use mathlib.Core.List.{List, [], ◌∷◌, ◌++◌, append_assoc}
 use native.Mathlib.Omega.{arith}
 use Rattle.std.proofs.Math.ListN.{length, take}
 use Rattle.std.proofs.Math.Seq.{take-nil, drop-nil, get_or-drop, drop-drop, take-take}
+use Rattle.std.specs.List.{copy_within}
+use borrow.Rule.Slice.PartMut.{put_mid}
 use Rattle.octets.specs.Part.{lay, part}
 
 module _ {A : Type 0} where
@@ -173,6 +175,25 @@ module _ {A : Type 0} where
   pub part_none : (xs : List A) (a : ℕ) → part xs a 0 ≡ []
   unfolding part
   part_none xs a = refl
+
+  -- what the code's `&s[a..b]` is, what a write of it leaves, and what `copy_within` leaves
+  pub part_range : (xs : List A) (a b n : ℕ) → b ≡ a + n → take (b - a) (drop a xs) ≡ part xs a n
+  unfolding part
+  part_range xs a b n e = ap (λ (k : ℕ). take k (drop a xs)) (omega arith)
+
+  pub put_mid_lay : (xs : List A) (a b n : ℕ) (ys : List A) → b ≡ a + n → b ≤ length xs → length ys ≡ n → put_mid a (b - a) xs ys ≡ lay xs a ys
+  put_mid_lay xs a b n ys e h l =
+      let k : a + (b - a) ≡ b = omega arith in
+      rw (drop-drop (b - a) a xs, k) (sym (lay_eq xs a ys b (omega arith) h))
+
+  pub copy_within_lay : (xs : List A) (from b to n : ℕ) → b ≡ from + n → b ≤ length xs → to + n ≤ length xs → copy_within xs from b to ≡ lay xs to (part xs from n)
+  unfolding part
+  copy_within_lay xs from b to n e h k =
+      let m : b - from ≡ n = omega arith in
+      let l : length (part xs from n) ≡ n = length_part xs from n (omega arith) in
+      rw m
+      (append_assoc (take to xs) (take n (drop from xs)) (drop (to + n) xs)
+      ∙ sym (lay_eq xs to (part xs from n) (to + n) (omega arith) k))
 
   -- what the code's `&s[a..]` is
   pub rest : (xs : List A) (a : ℕ) → take (length xs - a) (drop a xs) ≡ drop a xs

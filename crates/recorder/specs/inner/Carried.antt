@@ -1,13 +1,14 @@
 -- What a close asks once its tests before 10 have passed, and what it has done then; the same of the part that carries out a
--- plan which found enough of everything.
-use Rattle.std.specs.Prelude.{ℕ, ◌<◌, ◌≤◌, ◌≡◌, Bool, true, false, List, length}
-use Rattle.units.specs.Refusals as Refusals
+-- plan.
+use Rattle.std.specs.Prelude.{ℕ, ◌<◌, ◌≤◌, ◌≡◌, true, false, List, length, Result, Ok, Err}
 use Rattle.units.specs.Sizes.{top, side_length, base_length, buffer_length}
 use Rattle.units.specs.declared.Tick.{Tick}
 use Rattle.recorder.specs.Close.{after, closed, suffices}
-use Rattle.recorder.specs.inner.Planned.{Plans, Lists, Planned}
+use Rattle.recorder.specs.inner.Planned.{Plans, Planned}
 use Rattle.recorder.specs.World.{World}
-use Rattle.recorder.specs.declared.close.Done.{Done}
+use Rattle.units.specs.declared.refusal.Refusal.{Refusal}
+use Rattle.units.specs.declared.refusal.Refusal.TheVariants as Reason
+use Rattle.recorder.specs.declared.plan.Plan.{Plan}
 
 -- a state that keeps its rules, slices that are long enough, a tick to close
 pub record Closes (w : World) (N : Tick) : Type 0 where
@@ -17,7 +18,7 @@ pub record Closes (w : World) (N : Tick) : Type 0 where
   pub buffer_long : buffer_length w.state.settings ≤ length w.buffer
   pub low : w.state.closed.0 < top
 
-pub record Carries (w : World) (N : Tick) (p : Lists) : Type 0 where
+pub record Carries (w : World) (N : Tick) (p : Plan) : Type 0 where
   pub closes : Closes w N
   pub enough : suffices w ≡ true
   pub planned : Planned w p
@@ -26,13 +27,8 @@ pub record Carries (w : World) (N : Tick) (p : Lists) : Type 0 where
 abbrev pub Carried : World → ℕ → List ℕ → List ℕ → List ℕ → Type 0
 Carried w n ledger base side = (n ≡ length (after w)) × (ledger ≡ (closed w).ledger) × (base ≡ (closed w).base) × (side ≡ (closed w).side)
 
-abbrev pub CarriesTo : World → Tick → Lists → ℕ → List ℕ → List ℕ → List ℕ → Type 0
-CarriesTo w N p n ledger base side = Carries w N p → Carried w n ledger base side
-
 -- by the verdict of 10: carried out, or refused with nothing written
-abbrev pub Ended : Bool → World → Done → List ℕ → List ℕ → List ℕ → Type 0
-Ended true w d ledger base side = (d.number ≡ 0) × Carried w d.entries ledger base side
-Ended false w d ledger base side = (d.number ≡ Refusals.no_place) × (ledger ≡ w.ledger) × (base ≡ w.base) × (side ≡ w.side)
-
-abbrev pub ClosesTo : World → Tick → Done → List ℕ → List ℕ → List ℕ → Type 0
-ClosesTo w N d ledger base side = Closes w N → Ended (suffices w) w d ledger base side
+abbrev pub Ended : World → Result ℕ Refusal → List ℕ → List ℕ → List ℕ → Type 0
+Ended w (Ok n) ledger base side = (suffices w ≡ true) × Carried w n ledger base side
+Ended w (Err refusal) ledger base side =
+    (suffices w ≡ false) × (refusal ≡ Reason.NoPlace) × (ledger ≡ w.ledger) × (base ≡ w.base) × (side ≡ w.side)

@@ -5,7 +5,14 @@ use Rattle.units.specs.Tests.{Test}
 use Rattle.recorder.specs.Calls.{span_tests, grow_tests}
 use Rattle.recorder.specs.Close.{close_tests}
 use Rattle.recorder.specs.Rules.{standing}
+use Rattle.recorder.specs.Outcome.{lent}
 use Rattle.recorder.specs.World.{World}
+use Rattle.recorder.specs.declared.Files.{Files}
+use Rattle.recorder.specs.declared.State.{State}
+
+-- the world of a state and the lent slices
+abbrev pub among : Files → State → World
+among f s = lent s f.ledger.now f.base.now f.side.now f.buffer.now f.kinds.now
 
 -- the first of the tests of a close
 unfoldable pub last_tick : World → List Test

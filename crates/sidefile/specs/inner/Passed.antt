@@ -1,13 +1,15 @@
 -- What tests that pass tell, and what tests that fail answer: those of a side file at the judge's three extents. A caller
 -- that was given 0 has these facts. Assumes nothing.
 use Rattle.std.specs.Prelude.{ℕ, ◌+◌, ◌-◌, ◌*◌, ◌≤◌, ◌<◌, min, ◌≡◌, refl, Bool, true, false, List, ◌++◌, eqb, ltb, leb, length, take}
-use Rattle.std.proofs.Common.{arith, leb-true, ltb-true, eqb-true}
+use Rattle.std.proofs.Common.{arith, lit<, leb-true, ltb-true, eqb-true}
 use Rattle.lists.specs.Scans.{Every, all_of}
 use Rattle.lists.specs.laws.Scans.{head, tail, every_map, all_of_every}
 use Rattle.octets.specs.Number.{le16, le32}
 use Rattle.octets.specs.Part.{part}
 use Rattle.units.specs.laws.Bounds.{limits_within, index_end_most, first_image_least}
-use Rattle.units.specs.Refusals.{foreign, damaged}
+use Rattle.units.specs.Refusals.{foreign, damaged, code}
+use Rattle.units.specs.declared.refusal.Refusal.{Refusal}
+use Rattle.units.specs.declared.refusal.Refusal.TheVariants as Reason
 use Rattle.units.specs.Sizes.{header_length, index_row, limits, entries, places, index_end, side_length}
 use Rattle.units.specs.Tests.{passes, verdict}
 use Rattle.units.specs.laws.Tests.{passes_every, passes_both, verdict_by, verdict_none}
@@ -24,6 +26,23 @@ asks false n = holds n
 -- header and index at the largest settings
 abbrev pub most_front : ℕ
 most_front = header_length + index_row * 144
+
+-- 0 is the number of no refusal
+pub numbered : (r : Refusal) → 0 < code r
+numbered Reason.Settings = lit< tt
+numbered Reason.Short = lit< tt
+numbered Reason.State = lit< tt
+numbered Reason.Page = lit< tt
+numbered Reason.Kind = lit< tt
+numbered Reason.Span = lit< tt
+numbered Reason.NoSlot = lit< tt
+numbered Reason.NoPage = lit< tt
+numbered Reason.LastTick = lit< tt
+numbered Reason.NoPlace = lit< tt
+numbered Reason.Foreign = lit< tt
+numbered Reason.Damaged = lit< tt
+numbered Reason.Lag = lit< tt
+numbered Reason.Image = lit< tt
 
 -- The tests of a side file.
 

@@ -4,11 +4,15 @@
 use Prim.Native.Nat.{ℕ, suc, ◌+◌, ◌*◌, ◌<◌, ◌≤◌}
 use Rattle.std.proofs.Math.Path.{◌≡◌, refl}
 use Rattle.std.proofs.Common.{◌∙◌, sym, ap, drop_of_length-le}
-use Rattle.std.specs.Prelude.{Bool, ◌&&◌, eqb, ltb, leb, take}
+use Rattle.std.specs.Prelude.{Bool, cond, ◌&&◌, eqb, ltb, leb, take, Some, None}
+use Rattle.std.specs.List as Lists
 use Rattle.std.proofs.Math.Bool.{true, false}
 use mathlib.Core.List.{List, [], ◌∷◌, map}
 use Rattle.std.proofs.Math.Option.{some, none}
+use Rattle.std.proofs.lemmas.Bool.{ltb-true, ltb-false}
+use Rattle.std.proofs.lemmas.List.Recursion.{is_position_or_len}
 use native.Mathlib.Omega.{arith}
+use native.Mathlib.Numerals.{one-add}
 use Rattle.std.proofs.Math.ListN.{length, drop, length-map}
 use Rattle.std.proofs.Math.Seq.{drop-drop}
 use Rattle.lists.specs.Bools.{if_then}
@@ -131,6 +135,21 @@ module _ {A B : Type 0} (f : A → B) (t : B → Bool) where
 
 -- a position is that of the first element that passes
 module _ {A : Type 0} (t : A → Bool) where
+  -- the library's `position` has this one as an index, or none
+  indexed : (l : List A) → cond (ltb (position t l) (length l)) (Some (position t l)) None ≡ Lists.position t l
+  unfolding position
+  indexed l = rw (is_position_or_len (position t) t empty next l)
+    where
+      empty : position t [] ≡ 0
+      empty = refl
+
+      next : (x : A) (xs : List A) → position t (x ∷ xs) ≡ cond (t x) 0 (1 + position t xs)
+      next x xs = go (t x)
+        where
+          go : (b : Bool) → if_then b 0 (suc (position t xs)) ≡ cond b 0 (1 + position t xs)
+          go true = refl
+          go false = sym (one-add (position t xs))
+
   pub position_most : (l : List A) → position t l ≤ length l
   unfolding position
   position_most [] = omega arith
@@ -139,6 +158,20 @@ module _ {A : Type 0} (t : A → Bool) where
       go : (b : Bool) → position t l ≤ length l → if_then b 0 (suc (position t l)) ≤ suc (length l)
       go true h = omega arith
       go false h = omega arith
+
+  pub position_at : (l : List A) (i : ℕ) → Lists.position t l ≡ Some i → (i ≡ position t l) × (i < length l)
+  position_at l i e = go (ltb (position t l) (length l)) refl (indexed l ∙ e)
+    where
+      go : (b : Bool) → ltb (position t l) (length l) ≡ b → cond b (Some (position t l)) None ≡ Some i → (i ≡ position t l) × (i < length l)
+      go true h k = let e : i ≡ position t l = cc in (e, omega (arith, ltb-true (position t l) (length l) h))
+      go false h k = absurd (cc)
+
+  pub position_past : (l : List A) → Lists.position t l ≡ None → length l ≤ position t l
+  position_past l e = go (ltb (position t l) (length l)) refl (indexed l ∙ e)
+    where
+      go : (b : Bool) → ltb (position t l) (length l) ≡ b → cond b (Some (position t l)) None ≡ None → length l ≤ position t l
+      go true h k = absurd (cc)
+      go false h k = ltb-false (position t l) (length l) h
 
   pub position_some : (l : List A) (x : A) (xs : List A) → drop (position t l) l ≡ x ∷ xs → first t l ≡ some x
   unfolding position first
@@ -169,3 +202,18 @@ module _ (at w n : ℕ) (xs : List ℕ) (p i : ℕ) (found : i ≡ position (of_
 
   pub entry_missing : n ≤ i → first (of_page p) (entries_at at w n xs) ≡ none
   entry_missing h = position_none (of_page p) (entries_at at w n xs) (omega (arith, length_entries_at at w n xs))
+
+-- the same by the library's `position`
+module _ (at w n : ℕ) (xs : List ℕ) (p : ℕ) where
+  pub found_row : (i : ℕ) → Lists.position (of_page p) (entries_at at w n xs) ≡ Some i
+      → (i < n) × (first (of_page p) (entries_at at w n xs) ≡ some (index_entry_of (row at w i xs)))
+  found_row i e =
+      let found = position_at (of_page p) (entries_at at w n xs) i e in
+      let h : i < n = omega (arith, found.1, length_entries_at at w n xs) in (
+        h,
+        position_some (of_page p) (entries_at at w n xs) (index_entry_of (row at w i xs)) (drop (i + 1) (entries_at at w n xs))
+            (rw (← found.0) (entry_next at w n xs i h)),
+      )
+
+  pub found_none : Lists.position (of_page p) (entries_at at w n xs) ≡ None → first (of_page p) (entries_at at w n xs) ≡ none
+  found_none e = position_none (of_page p) (entries_at at w n xs) (position_past (of_page p) (entries_at at w n xs) e)

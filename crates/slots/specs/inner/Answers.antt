@@ -1,21 +1,16 @@
--- What the code's answers say in the terms of the table: a search's answer, a seating, the table after it; and what uses, loads
--- and evictions share.
-use Rattle.std.specs.Prelude.{ℕ, Bool, true, false, [], ◌∷◌, ◌++◌, map, set}
-use Rattle.std.proofs.Math.Option.{Option, some, none}
-use Rattle.slots.specs.Table.{to_page, set_page, set_changed, set_order, uses, spare_uses, without, loaded, evicted, Seat}
-use Rattle.slots.specs.declared.Found.{Found}
-use Rattle.slots.specs.declared.Found.TheVariants.{At, Nothing}
-use Rattle.slots.specs.declared.Seating.{Seating}
+-- What the code's answers say in the terms of the table: a seat, the table with a page in it; and what uses, loads and
+-- evictions share.
+use Rattle.std.specs.Prelude.{ℕ, Bool, true, false, [], ◌∷◌, ◌++◌, map, set, Option, Some, None}
+use Rattle.std.proofs.Math.Option as Maybe
+use Rattle.slots.specs.Table as Table
+use Rattle.slots.specs.Table.{to_page, set_page, set_changed, set_order, uses, spare_uses, without, loaded, evicted}
 use Rattle.slots.specs.declared.Slots.{Slots}
-
-abbrev pub to_option : Found → Option ℕ
-to_option (At i) = some i
-to_option Nothing = none
+use Rattle.slots.specs.declared.seats.Seat.{Seat}
 
 -- the seat that a page gets, without the table that it makes
-abbrev pub seating : Option Seat → Seating
-seating (some s) = record { found = true; slot = s.slot; evicts = s.evicts }
-seating none = record { found = false; slot = 0; evicts = false }
+abbrev pub seating : Maybe.Option Table.Seat → Option Seat
+seating (Maybe.some s) = Some (record { slot = s.slot; evicts = s.evicts })
+seating Maybe.none = None
 
 -- the table with page p in slot i, an empty one or one whose page is evicted
 abbrev pub taken : ℕ → Bool → ℕ → Slots → Slots

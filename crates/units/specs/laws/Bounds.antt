@@ -103,6 +103,9 @@ module _ (s : Settings) where
       (between_make 3 8 s.lag w.lag_least w.lag_most)
       ∙ between_make 1 65535 s.capacity w.capacity_least w.capacity_most
 
+  pub size_some : limits s ≡ true → 1 ≤ s.size
+  size_some h = omega (arith, (limits_within h).size_least)
+
 -- how large the numbers get
 module _ (s : Settings) (w : Within s) where
   pub entries_most : entries s ≤ 144

@@ -1,7 +1,6 @@
-use Prim.Native.Nat.{◌-◌, ◌≤◌}
 use mathlib.Core.Path.{◌≡◌}
 use mathlib.Core.List.{map}
-use lib.ListN.{length, take, drop}
+use lib.ListN.{take, drop}
 use Rattle.octets.specs.inner.Flags.{flags}
 use Rattle.units.specs.Sizes.{entry_row}
 use Rattle.sidefile.specs.inner.Table.{entries_at, places_fit}
@@ -12,11 +11,5 @@ use Rattle.ledger.proofs.places.held_places.Given as goal
 
 abbrev pub invariant-loop-i : goal.invariant-loop-i
 invariant-loop-i l =
-    (l.i ≤ l.n)
-    × (length l.held ≡ length l.initial.held)
-    × (length l.initial.held ≡ 34)
-    × (places_fit l.most (map indexed (entries_in l.n l.s)) ≡ fresh l.most (flags l.held) (drop l.i (entries_at 0 entry_row l.n l.s)))
+    (places_fit l.most (map indexed (entries_in l.n l.s)) ≡ fresh l.most (flags l.held) (drop l.i (entries_at 0 entry_row l.n l.s)))
     × (flags l.held ≡ held_by (take l.i (entries_in l.n l.s)))
-
-abbrev pub decreases-loop-i : goal.decreases-loop-i
-decreases-loop-i l = l.n - l.i

@@ -1,6 +1,5 @@
-use Prim.Native.Nat.{◌-◌, ◌≤◌}
 use mathlib.Core.Path.{◌≡◌}
-use lib.ListN.{length, take}
+use lib.ListN.{take}
 use Rattle.octets.specs.inner.Flags.{flags}
 use Rattle.ledger.specs.inner.Flagged.{picked}
 use Rattle.ledger.specs.inner.Tables.{held_by}
@@ -8,7 +7,4 @@ use Rattle.ledger.specs.View.{entries_in}
 use Rattle.ledger.proofs.places.places_of.Given as goal
 
 abbrev pub invariant-loop-i : goal.invariant-loop-i
-invariant-loop-i l = (l.i ≤ l.n) × (length l.held ≡ 34) × (flags l.held ≡ held_by (picked (flags l.marked) (take l.i (entries_in l.n l.s))))
-
-abbrev pub decreases-loop-i : goal.decreases-loop-i
-decreases-loop-i l = l.n - l.i
+invariant-loop-i l = flags l.held ≡ held_by (picked (flags l.marked) (take l.i (entries_in l.n l.s)))

@@ -1,60 +1,28 @@
-use Prim.Native.Nat.{◌≤◌}
-use mathlib.Core.Path.{◌≡◌, ◌∙◌, sym}
-use native.Mathlib.Omega.{arith}
-use borrow.Author.Rules.{rules}
-use lib.ListN.{length}
-use Rattle.lists.specs.laws.Maps.{length_mapped}
-use Rattle.slots.proofs.Turns.{slot_start, slot_here, slot_next, slot_end, victim_start, victim_end, victim_absent, victim_spared, victim_here}
+use Rattle.std.proofs.Common.{arith, ◌∙◌, sym, []}
+use Rattle.slots.specs.inner.Lent.{table_of}
+use Rattle.slots.specs.laws.Sits.{slot_found}
+use Rattle.slots.proofs.Turns.{victim_start, victim_end, victim_next}
 use Rattle.slots.proofs.Slots.victim.Goals as goal
-use Rattle.slots.proofs.Slots.victim.Goals.{At-search}
+use Rattle.slots.proofs.Slots.victim.Goals.{in-Some+else-not-mask-i, in_default}
 
-long : (c : At-search) → c.args.self.used ≤ length c.args.self.order
-long c = let e : length c.args.self.order ≡ 16 = search (rules, length_mapped) in omega arith
+pub loop-page-init : goal.loop-page-init
+loop-page-init c = victim_start c.args.slots c.args.mask c.args.self
 
-pub search-init : goal.search-init
-search-init c = (search rules, victim_start c.args.slots c.args.mask c.args.self)
+pub bounds-mask-i : goal.bounds-mask-i
+bounds-mask-i c = omega (arith, (slot_found c.args.slots (table_of c.args.self.pages []) _ c.in-Some.i (sym c.in-Some.ensures)).0)
 
-pub loop-i-init : goal.loop-i-init
-loop-i-init c = (search rules, slot_start _ _ _)
-
-pub search-preserved : goal.search-preserved
-search-preserved c =
-    let long = long (goal.at.search-preserved c).At-search in
-    let a = c.args in (
-      search rules,
-      c.search.invariant.1
-          ∙ victim_absent a.slots a.mask a.self c.search.k long (omega arith)
-          (c.loop-i.invariant.1 ∙ slot_end a.slots a.self _ c.loop-i.i (omega arith)),
-    )
-
-pub search-preserved-then-mask-i : goal.search-preserved-then-mask-i
-search-preserved-then-mask-i c =
-    let long = long (goal.at.search-preserved-then-mask-i c).At-search in
-    let a = c.args in (
-      search rules,
-      c.search.invariant.1
-          ∙ victim_spared a.slots a.mask a.self c.search.k long (omega arith) c.loop-i.i
-          (c.loop-i.invariant.1 ∙ slot_here a.slots a.self _ c.loop-i.i (omega arith) c.if-held-page.true)
-          c.if-mask-i.true,
-    )
-
-pub loop-i-preserved : goal.loop-i-preserved
-loop-i-preserved c =
+pub loop-page-preserved : goal.loop-page-preserved
+loop-page-preserved c =
     let a = c.args in
-    (search rules, c.loop-i.invariant.1 ∙ slot_next a.slots a.self _ c.loop-i.i (omega arith) c.if-held-page.false)
+    c.loop-page.invariant
+    ∙ victim_next a.slots a.mask a.self c.loop-page.page-index c.loop-page-test.true
+    ∙ elim c.match-slot_in.branch [ in-Some+else-not-mask-i w ↦ rw (sym w.in-Some.ensures) (rw w.if-not-mask-i.false) | in_default w ↦ rw (sym w.in_default.ensures) ]
 
-pub returns-then-used-k : goal.returns-then-used-k
-returns-then-used-k c =
-    let long = long (goal.at.returns-then-used-k c).At-search in
+pub returns-then-not-mask-i : goal.returns-then-not-mask-i
+returns-then-not-mask-i c =
     let a = c.args in
-    sym (c.search.invariant.1 ∙ victim_end a.slots a.mask a.self c.search.k long (omega arith))
+    sym (c.loop-page.invariant
+    ∙ victim_next a.slots a.mask a.self c.loop-page.page-index c.loop-page-test.true ∙ rw (sym c.in-Some.ensures) (rw c.if-not-mask-i.true))
 
-pub returns-else-mask-i : goal.returns-else-mask-i
-returns-else-mask-i c =
-    let long = long (goal.at.returns-else-mask-i c).At-search in
-    let a = c.args in
-    sym
-    (c.search.invariant.1
-    ∙ victim_here a.slots a.mask a.self c.search.k long (omega arith) c.loop-i.i
-    (c.loop-i.invariant.1 ∙ slot_here a.slots a.self _ c.loop-i.i (omega arith) c.if-held-page.true)
-    c.if-mask-i.false)
+pub returns-after-loop-page : goal.returns-after-loop-page
+returns-after-loop-page c = sym (c.loop-page.invariant ∙ victim_end c.args.slots c.args.mask c.args.self c.loop-page.page-index c.loop-page-test.false)

@@ -1,20 +1,7 @@
-use Prim.Native.Nat.{◌≤◌, ◌-◌}
-use mathlib.Core.Path.{◌≡◌}
-use mathlib.Core.Bool.{false}
-use lib.ListN.{get_or}
-use Rattle.slots.specs.Table.{slot_of, victim}
-use Rattle.slots.proofs.Turns.{slot_from, victim_from}
+use Rattle.std.proofs.Common.{◌≡◌, false, get_or}
+use Rattle.slots.specs.Table.{victim}
+use Rattle.slots.proofs.Turns.{victim_from}
 use Rattle.slots.proofs.Slots.victim.Given as goal
 
-abbrev pub invariant-loop-i : goal.invariant-loop-i
-invariant-loop-i l = (l.i ≤ l.slots) × (slot_of l.slots l.self l.page.0 ≡ slot_from l.slots l.self l.page.0 l.i)
-
-abbrev pub decreases-loop-i : goal.decreases-loop-i
-decreases-loop-i l = l.slots - l.i
-
-abbrev pub invariant-search : goal.invariant-search
-invariant-search l =
-    (l.k ≤ l.used) × (victim l.slots (λ i. get_or l.mask i false) l.self ≡ victim_from l.slots l.mask l.self l.k)
-
-abbrev pub decreases-search : goal.decreases-search
-decreases-search l = l.used - l.k
+abbrev pub invariant-loop-page : goal.invariant-loop-page
+invariant-loop-page l = victim l.slots (λ i. get_or l.mask i false) l.fn.self ≡ victim_from l.slots l.mask l.fn.self l.page-index

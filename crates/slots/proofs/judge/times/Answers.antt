@@ -1,28 +1,22 @@
-use Prim.Native.Nat.{◌≤◌}
-use mathlib.Core.Path.{◌≡◌}
-use native.Mathlib.Omega.{arith}
-use borrow.Author.Rules.{rules}
-use lib.ListN.{length}
+use Rattle.std.proofs.Common.{rules, arith, ◌≡◌, ◌≤◌, ◌∙◌, sym, length, ◌&&◌, eqb, ltb, get_or}
 use Rattle.lists.specs.laws.Maps.{length_mapped}
-use Rattle.slots.proofs.Turns.{times_end, times_this, times_past, times_other}
+use Rattle.slots.specs.Table.{to_page}
+use Rattle.slots.proofs.Turns.{times_end, times_turn}
 use Rattle.slots.proofs.judge.times.Goals as goal
-use Rattle.slots.proofs.judge.times.Goals.{Start, else-held-page, then-held-page+else-i-n, then-held-page+then-i-n}
+use Rattle.slots.proofs.judge.times.Goals.{Start, then-eq, else-eq}
 
-long : (c : Start) → length c.args.list ≡ 16
-long c = search (rules, length_mapped)
-
-pub loop-i-init : goal.loop-i-init
-loop-i-init c = (search rules, search rules, omega arith)
+long : (c : Start) → c.args.n ≤ length c.args.list.now
+long c = let e : length c.args.list.now ≡ 16 = search (rules, length_mapped) in omega arith
 
 pub loop-i-preserved : goal.loop-i-preserved
 loop-i-preserved c =
-    let long = long (goal.at.loop-i-preserved c).Start in
     let a = c.args in
-    let m : a.n ≤ length a.list = omega (arith, long) in
-    elim c.if-held-page.branch [ then-held-page+then-i-n w ↦ omega (arith, w.count-is, times_this a.list a.n c.loop-i.i m a.page.0 w.if-i-n.true w.if-held-page.true) | then-held-page+else-i-n w ↦ omega (arith, w.count-is, times_past a.list a.n c.loop-i.i m a.page.0 w.if-i-n.false) | else-held-page w ↦ omega (arith, w.count-is, times_other a.list a.n c.loop-i.i m a.page.0 w.if-held-page.false) ]
+    let q = eqb (get_or a.list.now c.loop-i.i (to_page 0)).0 a.page.0 in
+    let e : c.if-eq.from ≡ (q && ltb c.loop-i.i a.n) = elim c.if-eq.branch [ then-eq w ↦ rw (sym c.eq.ensures ∙ w.if-eq.true) w.from-is | else-eq w ↦ rw (sym c.eq.ensures ∙ w.if-eq.false) (w.from-is ∙ w.if-eq.false) ] in
+    let t = times_turn a.list.now a.n c.loop-i.i a.page.0 (long (goal.at.loop-i-preserved c).Start) c.from.result c.if-eq.from e (λ q. rw q at c.from.ensures) (λ q. rw q at c.from.ensures) in
+    (omega (arith, t.0), omega (arith, t.1))
 
 pub returns : goal.returns
 returns c =
-    let long = long (goal.at.returns c).Start in
     let a = c.args in
-    omega (arith, times_end a.list a.n c.loop-i.i (omega (arith, long)) a.page.0 (omega arith))
+    omega (arith, times_end a.list.now a.n c.loop-i.i a.page.0 (long (goal.at.returns c).Start))
