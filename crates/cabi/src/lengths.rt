@@ -6,7 +6,7 @@ ghost use Rattle.units.specs.Sizes as Sizes;
 
 use units::Settings;
 
-// A length of settings that are within their limits.
+// A length of settings that are within their limits, else 0: C has no Option.
 fn within<F: FnOnce(Settings) -> usize>(settings: Settings, length: F) -> usize
     requires { Sizes.limits settings ≡ true → F.pre length settings }
     ensures inside { Sizes.limits settings ≡ true → F.post length settings result }

@@ -35,7 +35,7 @@ impl From<Source> for u32 {
 }
 
 // What a read answers to a program that takes its bytes itself: the number of refusal, the slice (0 the base, 1 the side
-// file) and where in it they begin. Of a refusal the last two are 0.
+// file) and where in it they begin. Of a refusal the last two are 0. C reads it, so refusal and slice are numbers here.
 #[repr(C)]
 #[derive(Clone, Copy)]
 pub struct Part {

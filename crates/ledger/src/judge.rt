@@ -101,7 +101,8 @@ pub fn keeps_rules(
         && places_fit(s, settings, &held, closed)
 }
 
-// The entries are of metadata pages. Their pages are below e, and the kind table is longer.
+// The entries are of metadata pages, whose kind is 0: recorder's `Kind` stands above this crate. Their pages are below e, and the
+// kind table is longer.
 pub fn kinds_fit(s: &[u8], n: usize, kinds: &[u8]) -> bool
     requires { (n * entry_row ≤ length s.now) × Every (λ e. page_of e < length kinds.now) (entries_in n s.now) }
     ensures { result ≡ all_of (λ e. eqb (get_or kinds.now (page_of e) 0) 0) (entries_in n s.now) }

@@ -1,6 +1,6 @@
 // The ledger: the recorder's entries and image places, as rows in lent bytes. It is state, kept beside the small struct:
 // X rows of 20 bytes, an index entry as the side file has it followed by its entry tick; then M rows of 8 bytes, retired
-// (0 or not) and the tick of that.
+// (0 or not) and the tick of that. Rows of bytes and no list of structs, for there is no heap.
 #![tactic(auto)]
 
 pub mod index;

@@ -101,7 +101,7 @@ pub fn free_places(
     count
 }
 
-// The row of a place after the close of `tick`, which may retire it.
+// The row of a place after the close of `tick`, which may retire it: a fact about the place, as in the definition `row_after`.
 #[tactic(auto, unfolding(units::specs::Sizes::ledger_length, crate::specs::inner::Tables::row_after, crate::specs::View::place_row_at, octets::specs::Rows::row), using(crate::proofs::Placing::after_retired, octets::specs::laws::Part::lay_part))]
 fn place_after(s: &mut [u8], settings: Settings, q: usize, retires: bool, tick: Tick)
     requires { (limits settings ≡ true) × (ledger_length settings ≤ length s.old) × (q < Sizes.places settings) }

@@ -12,6 +12,7 @@ struct Words {
     c: u32,
 }
 
+// Document 01 asks for a rotation function of its own. Each rotation asks for its count: a type for it would be longer.
 fn rotate(x: u32, k: u32) -> u32
     requires { (0 < k) × (k < 32) }
     ensures { result ≡ Hash.rot x k }

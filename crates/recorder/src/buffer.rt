@@ -45,7 +45,7 @@ impl Use {
 }
 
 // The page in a slot is changed or owed, so that the slot may not be chosen. `whole` is told because a caller does not know the
-// lengths of arrays behind a reference.
+// lengths of arrays behind a reference. The rules are asked, not a type's: C hands the state over, and each call judges it.
 #[tactic(auto, using(crate::proofs::Bringing::search_asks), unfolding(crate::specs::Calls::unclean, crate::specs::World::entries_of, slots::specs::Table::changed_at, slots::specs::Table::page_at))]
 fn unclean(state: &State, ledger: &[u8], i: usize) -> bool
     requires { (rules (lent state.now ledger.now [] [] [] []) ≡ true) × (i < 16) }

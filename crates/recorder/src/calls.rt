@@ -1,5 +1,5 @@
 // Open, read, write and grow. They take anything: every number, slice and state is judged before it is used. A refusal comes
-// before anything is written, and the state stays the one that was given.
+// before anything is written, the state that a call is lent included.
 ghost use Rattle.std.specs.Prelude.{◌≡◌, []};
 ghost use Rattle.recorder.specs.Calls as Calls;
 ghost use Rattle.recorder.specs.Outcome.{lent, answer, answer_with, answered};
@@ -10,7 +10,6 @@ use crate::{Answer, Files, State, buffer, spans, tests};
 use sidefile::encode;
 use units::{Page, Refusal, Settings, Tick};
 
-// How C is answered. One function that takes what a call answered would copy the state once more.
 impl Answer {
     // The call is done, and this is the state from now on.
     pub fn accepted(state: State) -> Answer
@@ -19,13 +18,15 @@ impl Answer {
         Answer { number: 0, state }
     }
 
-    // The call is refused, and this is the state that was given.
+    // The call is refused, and this is the state that was given. Any number, as it promised before there was a `Refusal`.
     pub fn refused(number: u32, state: State) -> Answer
         ensures { result ≡ record { number = number; state = state } }
     {
         Answer { number, state }
     }
 }
+
+// The slices of a call come apart and in C's order: which of them it may write differs from call to call.
 
 // Tick `tick` is closed, the index empty, the slots empty, the counts zero. 1, 2, 5 or done.
 pub fn open(

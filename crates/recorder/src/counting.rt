@@ -27,6 +27,7 @@ impl Counts {
         self
     }
 
+    // `evicts`, here and below, is told of the seat, as to the definition.
     pub fn eviction(mut self, evicts: bool) -> Counts
         ensures { result ≡ World.add_eviction «evicts» self }
     {

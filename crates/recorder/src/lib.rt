@@ -1,6 +1,6 @@
-// The recorder (document 01, "What the recorder does"): its state, and the five calls. The state is this struct by value and
+// The recorder (document 01, "What the recorder does"): its state, and the five calls. The state is this struct and
 // the lent ledger; base, side file, page buffer and kind table are lent to each call. A slice that a call does not write is
-// lent to it for reading only.
+// lent to it for reading only. Open answers a state; the other calls change one that they are lent.
 #![tactic(auto)]
 
 pub mod buffer;

@@ -37,6 +37,7 @@ pub fn write_images(state: &State, buffer: &[u8], side: &mut [u8], plan: &Plan) 
     ensures { (take plan.now.count result ≡ image_sums (shown state.now buffer.now) (numbers_of plan.now.count plan.now.pages)) × (side.new ≡ images_laid (shown state.now buffer.now) plan.now.pages plan.now.places plan.now.count side.old) }
 {
     let mut sums = [0; 16];
+    // By index: what is written through `iter_mut` is unknown to a proof.
     for j in 0..plan.count {
         let image = held(state, buffer, plan.pages[j]);
         sums[j] = lookup3::checksum(image);

@@ -13,7 +13,7 @@ use crate::kinds::Kind;
 use crate::{Files, State, judge};
 use units::{Page, Refusal, Settings};
 
-// The kind bytes are those of kinds.
+// The kind bytes are those of kinds. By number, as the definition has it: open looks at up to 65,535 of them.
 fn kinds_known(kinds: &[u8]) -> bool
     ensures { result ≡ list_all (λ k. ltb k 2) kinds.now }
 {
@@ -91,6 +91,7 @@ pub fn closes(state: &State, files: &Files) -> Result<(), Refusal>
     ensures { Refusals.number result ≡ verdict (early_tests (among files.now state.now)) }
 {
     judge::stands(state, files)?;
+    // By its number: with a comparison of two ticks the proof did not close.
     if state.closed.0 == u32::MAX {
         return Err(Refusal::LastTick);
     }

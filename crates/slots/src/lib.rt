@@ -12,7 +12,8 @@ pub use seats::Seat;
 use units::Page;
 
 // An empty slot has the page number 4,294,967,295. A flag is set if it is not 0. The order lists the pages in the occupied
-// slots, the one used longest ago first; `used` says how many of its elements count.
+// slots, the one used longest ago first; `used` says how many of its elements count. Arrays of 16 by value are the form that
+// document 01 names. C fills the struct and may forge it: what is true of it is judged (judge.rt) and asked, not the type's.
 #[repr(C)]
 #[derive(Clone, Copy)]
 pub struct Slots {

@@ -1,5 +1,5 @@
 // What the table answers: the slot of a page, the lowest empty slot, the victim. A search looks at the first `slots` of the 16
-// rows. A close, which asks often, lends its pages: a table that is handed down by value would be copied at each step.
+// rows.
 ghost use Rattle.std.specs.Prelude.{◌≡◌, false, [], ◌≤◌, get_or};
 ghost use Rattle.lists.specs.Options.{to_option};
 ghost use Rattle.slots.specs.Table as Table;

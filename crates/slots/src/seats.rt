@@ -8,7 +8,7 @@ ghost use Rattle.slots.specs.inner.Asked.{Takes};
 use crate::Slots;
 use units::Page;
 
-// The slot that a page gets, and whether a page is evicted for it.
+// The slot that a page gets, and whether a page is evicted for it: a flag beside the slot, as the definition `Table: Seat` has it.
 #[derive(Clone, Copy)]
 pub struct Seat {
     pub slot: usize,

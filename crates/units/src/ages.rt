@@ -21,7 +21,8 @@ impl Tick {
         u64::from(closed.0) < self.plus(wait)
     }
 
-    // An entry that entered at this tick goes to the base at close n.
+    // An entry that entered at this tick goes to the base at close n. `changed_now`, here and below, is a fact about its page, as
+    // in the definition, and no switch.
     #[tactic(auto, unfolding(crate::specs::Ages::due))]
     pub fn due(self, wait: u32, changed_now: bool, n: Tick) -> bool
         ensures { result ≡ Ages.due wait self changed_now n }

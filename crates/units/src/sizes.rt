@@ -35,7 +35,8 @@ impl Settings {
 
     // The largest X.
     pub const MOST_ENTRIES: usize = 144;
-    // The bytes of a table with a flag for each entry or place: of the 144 and the 272 that any settings can have.
+    // The bytes of a table with a flag for each entry or place: of the 144 and the 272 that any settings can have. Bits and no
+    // `bool` each: a close has several such tables on a stack of 2 KiB.
     pub const ENTRY_FLAGS: usize = 18;
 
     pub const PLACE_FLAGS: usize = 34;
@@ -70,7 +71,7 @@ impl Settings {
         self.lag
     }
 
-    // X.
+    // X. The limits are asked, here and below: document 01 wants functions of a settings value, and C fills it as it likes.
     #[tactic(auto, unfolding(crate::specs::Sizes::entries, crate::specs::Sizes::wait), using(crate::specs::laws::Bounds::limits_within, crate::specs::laws::Bounds::entries_most))]
     pub fn entries(self) -> usize
         requires { Sizes.limits self ≡ true }
