@@ -85,12 +85,12 @@ pub locates_refused : (r : Refusal) (side base : List ℕ) → Locates (refused 
 locates_refused r side base = record { number = refl; source = refl; start = refl; bytes = part_none base 0; within = omega arith }
 
 module _ (h : Header) (side base : List ℕ) (p offset n : ℕ) where
-  locates_base : p * h.settings.size + offset + n ≤ length base
+  pub locates_base : p * h.settings.size + offset + n ≤ length base
       → Locates (located h side base p offset n none) side base (Ok (base_span h.settings p offset n))
   unfolding located base_span
   locates_base l = record { number = refl; source = refl; start = refl; bytes = refl; within = l }
 
-  locates_image : (x : IndexEntry) → image_at h.settings x.place + h.settings.size ≤ length side → offset + n ≤ h.settings.size
+  pub locates_image : (x : IndexEntry) → image_at h.settings x.place + h.settings.size ≤ length side → offset + n ≤ h.settings.size
       → Locates (located h side base p offset n (some x)) side base (image_span h.settings side x offset n)
   unfolding located image_span
   locates_image x k l = go (eqb (image_sum x.page (part side (image_at h.settings x.place) h.settings.size)) x.sum)
@@ -154,11 +154,11 @@ module _ (held side base : List ℕ) (p offset n : ℕ) (v : 0 ≡ verdict (test
   read_long = held_long held readable.kept
 
   -- an image place below M, within a side file; a page below e, within a base
-  image_within : (s : Settings) (q : Place) (k : ℕ) → q.0 < places s → side_length s ≤ k → image_at s q + s.size ≤ k
+  pub image_within : (s : Settings) (q : Place) (k : ℕ) → q.0 < places s → side_length s ≤ k → image_at s q + s.size ≤ k
   unfolding image_at side_length
   image_within s q k h l = omega (arith, row_in s.size q.0 (places s) h)
 
-  page_within : (size e p offset n k : ℕ) → p < e → size * e ≤ k → offset + n ≤ size → p * size + offset + n ≤ k
+  pub page_within : (size e p offset n k : ℕ) → p < e → size * e ≤ k → offset + n ≤ size → p * size + offset + n ≤ k
   page_within size e p offset n k h l m = omega (arith, row_in size p e h, mul_comm size e)
 
   -- h is the header of the held buffer

@@ -39,7 +39,7 @@ slots_few s l = (limits_within s.settings l).slots_most
 -- what the search for a page's slot gives
 module _ (s : State) (p : ℕ) where
   module _ (i : ℕ) (e : some i ≡ slot_of s.settings.slots (table_of s.slots.pages []) p) where
-    low : i * s.settings.size + s.settings.size ≤ s.settings.slots * s.settings.size
+    pub low : i * s.settings.size + s.settings.size ≤ s.settings.slots * s.settings.size
     low = row_in s.settings.size i s.settings.slots (slot_found s.settings.slots (table_of s.slots.pages []) p i (sym e)).0
 
     pub slot_within : (buffer : List ℕ) → buffer_length s.settings ≤ length buffer → i * s.settings.size + s.settings.size ≤ length buffer
@@ -61,7 +61,7 @@ module _ (s : State) (p : ℕ) where
 
 -- a page's bytes are at most a page long
 module _ (s : State) (buffer : List ℕ) (p : ℕ) where
-  held_short : length (bytes_in (shown s buffer) p) ≤ s.settings.size
+  pub held_short : length (bytes_in (shown s buffer) p) ≤ s.settings.size
   unfolding bytes_in slot_bytes row part
   held_short = go (slot_for (shown s buffer) p)
     where

@@ -61,13 +61,13 @@ module _ (w : World) where
     unfolding standing last_tick close_tests all_of
     passed = verdict_none (early_tests w) refl (sym e)
 
-    close_short : suffices w ≡ false → refuse w [] Refusals.no_place ≡ close_reply w
+    pub close_short : suffices w ≡ false → refuse w [] Refusals.no_place ≡ close_reply w
     close_short s = sym (in_parts ∙ refused_last (refuse w []) (accept (closed w) []) (early_tests w) _ _ passed s)
 
-    close_done : suffices w ≡ true → accept (closed w) [] ≡ close_reply w
+    pub close_done : suffices w ≡ true → accept (closed w) [] ≡ close_reply w
     close_done s = sym (in_parts ∙ accepted_last (refuse w []) (accept (closed w) []) (early_tests w) _ _ passed s)
 
-    close_stands : Stands w
+    pub close_stands : Stands w
     close_stands = stands_facts w (passes_both (standing w) (last_tick w) passed).0
 
     pub close_low : w.state.closed.0 < top

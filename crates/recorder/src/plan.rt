@@ -1,9 +1,10 @@
 // What a close will do, worked out before anything is written: the changed pages with their places and entry ticks, and the
 // rows that leave. There is no plan where there are not places and rows enough (document 01, number 10).
-ghost use Rattle.std.specs.Prelude.{◌≡◌, false, [], replicate};
+ghost use Rattle.std.specs.Prelude.{◌≡◌, false, replicate};
 ghost use Rattle.octets.specs.inner.Flags.{flags};
+ghost use Rattle.recorder.specs.inner.Handed.{seen};
 ghost use Rattle.recorder.specs.inner.Planned.{Plans, PlansTo};
-ghost use Rattle.recorder.specs.Outcome.{lent};
+ghost use Rattle.recorder.specs.World.{World};
 
 use crate::State;
 use ledger::{places, renewal, retiring};
@@ -35,11 +36,12 @@ impl Plan {
         }
     }
 
-    // The plan of the close of `tick`, into an empty one. 10 or 0.
+    // The plan of the close of `tick`, into an empty one. 10 or 0. Of the state it looks at settings, e, the number of entries, and
+    // the pages in the slots with their flags of change: it asks, and says, no more than of a world with these.
     pub fn fill(&mut self, state: &State, ledger: &[u8], tick: Tick) -> Result<(), Refusal>
         requires empty { flags self.old.going ≡ replicate 144 false }
-        requires plans { Plans (lent state.now ledger.now [] [] [] []) tick }
-        ensures { PlansTo (lent state.now ledger.now [] [] [] []) result self.new }
+        requires plans { (w : World) × Plans (seen state.now ledger.now w) tick }
+        ensures { (w : World) → Plans (seen state.now ledger.now w) tick → PlansTo (seen state.now ledger.now w) result self.new }
     {
         let settings = state.settings;
         let n = state.entries as usize;

@@ -41,7 +41,7 @@ module _ (xs : List ℕ) (e : 0 ≡ verdict (told_tests xs)) where
   unfolding mark_tests header_tests all_of
   passed = verdict_none (told_tests xs) refl (sym e)
 
-  told_indexed : Indexed xs
+  pub told_indexed : Indexed xs
   told_indexed = indexed_held xs (passes_both (mark_tests xs) (header_tests (holds (length xs)) xs) passed).1
 
   pub told_long : header_length ≤ length xs

@@ -51,8 +51,10 @@ fn long_enough(settings: Settings, n: usize, whole: bool) -> bool
     least <= n
 }
 
-// The tests of 12 that concern the header, for a side file of n bytes (whole) or a held buffer of n bytes.
+// The tests of 12 that concern the header, for a side file of n bytes (whole) or a held buffer of n bytes. A call of its own
+// (`judge_header` says why).
 #[tactic(auto, unfolding(crate::specs::Judge::header_tests, units::specs::Tests::passes, crate::specs::Encode::checksum))]
+#[inline(never)]
 pub fn header_passes(s: &[u8], n: usize, whole: bool) -> bool
     requires { header_length ≤ length s.now }
     ensures { result ≡ passes (header_tests (asks whole n) s.now) }

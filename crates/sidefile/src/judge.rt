@@ -40,8 +40,10 @@ pub fn judge_whole(s: &[u8], n: usize) -> Result<(), Refusal>
     Ok(())
 }
 
-// The header, and the length n: of a side file (whole), or of a held buffer. Refused by 11 or 12, or not.
+// The header, and the length n: of a side file (whole), or of a held buffer. Refused by 11 or 12, or not. Inlined, and
+// `header_passes` not, so that a front with another mark costs its callers the tests of the mark alone.
 #[tactic(auto, using(crate::specs::inner::Passed::mark_length, crate::specs::inner::Passed::mark_refused, crate::specs::inner::Passed::header_refused, units::specs::laws::Tests::verdict_before, units::specs::laws::Tests::verdict_behind, units::specs::laws::Tests::verdict_passes))]
+#[inline(always)]
 pub fn judge_header(s: &[u8], n: usize, whole: bool) -> Result<(), Refusal>
     ensures { Refusals.number result ≡ verdict (mark_tests s.now ++ header_tests (asks whole n) s.now) }
 {

@@ -18,7 +18,7 @@ use Rattle.slots.specs.Table.{to_page, without, times}
 use Rattle.slots.specs.laws.Order.{times_here, times_next, times_last}
 
 -- the numbers of pages, and pages again
-pages_back : (l : List Page) → map to_page (map (λ p. p.0) l) ≡ l
+pub pages_back : (l : List Page) → map to_page (map (λ p. p.0) l) ≡ l
 pages_back [] = refl
 pages_back (p ∷ ps) = ap (λ (l : List Page). p ∷ l) (pages_back ps)
 

@@ -13,7 +13,10 @@ fn between(least: u32, most: u32, n: u32) -> bool
 fn known_size(p: u32) -> bool
     ensures { result ≡ Sizes.page_size p }
 {
-    matches!(p, 512 | 1024 | 2048 | 4096)
+    matches!(
+        p,
+        Settings::LEAST_PAGE_SIZE | 1024 | 2048 | Settings::MOST_PAGE_SIZE
+    )
 }
 
 impl Settings {
