@@ -52,7 +52,7 @@ every_number (q ∷ l) e = more (head e) (every_number l (tail e))
 
 -- what the copies look at
 abbrev pub held : World → World
-held w = shown w.state w.buffer
+held w = shown w.state.settings w.state.slots.pages w.buffer
 
 held_same : (w : World) → bytes_in (held w) ≡ bytes_in w
 unfolding bytes_in slot_for slot_of page_at slot_bytes

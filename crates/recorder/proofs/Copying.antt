@@ -51,26 +51,26 @@ module _ (s : State) (p : ℕ) where
         let w = limits_within s.settings l in
         omega (arith, low, pages_most s.settings w s.settings.slots 16 w.slots_most)
 
-    pub held_some : (buffer : List ℕ) (k : ℕ) → k ≡ s.settings.size → take k (drop (i * s.settings.size) buffer) ≡ bytes_in (shown s buffer) p
+    pub held_some : (buffer : List ℕ) (k : ℕ) → k ≡ s.settings.size → take k (drop (i * s.settings.size) buffer) ≡ bytes_in (shown s.settings s.slots.pages buffer) p
     unfolding bytes_in slot_for slot_of page_at slot_bytes row part
     held_some buffer k h = let a : 0 + i * s.settings.size ≡ i * s.settings.size = omega arith in rw (h, ← e, a)
 
-  pub held_none : (buffer : List ℕ) → none ≡ slot_of s.settings.slots (table_of s.slots.pages []) p → [] ≡ bytes_in (shown s buffer) p
+  pub held_none : (buffer : List ℕ) → none ≡ slot_of s.settings.slots (table_of s.slots.pages []) p → [] ≡ bytes_in (shown s.settings s.slots.pages buffer) p
   unfolding bytes_in slot_for slot_of page_at
   held_none buffer e = rw (← e)
 
 -- a page's bytes are at most a page long
 module _ (s : State) (buffer : List ℕ) (p : ℕ) where
-  pub held_short : length (bytes_in (shown s buffer) p) ≤ s.settings.size
+  pub held_short : length (bytes_in (shown s.settings s.slots.pages buffer) p) ≤ s.settings.size
   unfolding bytes_in slot_bytes row part
-  held_short = go (slot_for (shown s buffer) p)
+  held_short = go (slot_for (shown s.settings s.slots.pages buffer) p)
     where
-      go : (o : Option ℕ) → length (bytes_at (shown s buffer) o) ≤ s.settings.size
+      go : (o : Option ℕ) → length (bytes_at (shown s.settings s.slots.pages buffer) o) ≤ s.settings.size
       go none = omega arith
       go (some i) = simp length-take (omega arith)
 
 -- where they are copied to: place q of the side file, page k of the base
-module _ (s : State) (buffer : List ℕ) (p : ℕ) (bytes : List ℕ) (e : bytes ≡ bytes_in (shown s buffer) p) where
+module _ (s : State) (buffer : List ℕ) (p : ℕ) (bytes : List ℕ) (e : bytes ≡ bytes_in (shown s.settings s.slots.pages buffer) p) where
   pub place_in : (xs : List ℕ) (at : ℕ) (q : Place) → at ≡ image_at s.settings q → side_length s.settings ≤ length xs → q.0 < places s.settings → at + length bytes ≤ length xs
   unfolding side_length image_at
   place_in xs at q a h b = omega (arith, ap length e, held_short s buffer p, row_in s.settings.size q.0 (places s.settings) b)
@@ -134,13 +134,13 @@ pub record Row (s : Settings) (N : Tick) (n : ℕ) (ledger : List ℕ) (i : ℕ)
 -- what the rows from i on still lay over the base: row i lays its page, or is not due
 module _ (s : State) (buffer : List ℕ) (N : Tick) (n : ℕ) (ledger : List ℕ) where
   abbrev from_row : ℕ → List ℕ → List ℕ
-  from_row i xs = due_laid (shown s buffer) N (drop i (entries_in n ledger)) xs
+  from_row i xs = due_laid (shown s.settings s.slots.pages buffer) N (drop i (entries_in n ledger)) xs
 
   module _ {i : ℕ} {e : Entry} {due : Bool} (r : Row s.settings N n ledger i e due) (xs ys : List ℕ) where
     seen : drop i (entries_in n ledger) ≡ e ∷ drop (i + 1) (entries_in n ledger)
     seen = entry_next n ledger i r.below ∙ ap (λ (x : Entry). x ∷ drop (i + 1) (entries_in n ledger)) (sym r.read)
 
-    pub due_next : due ≡ true → (bytes : List ℕ) → bytes ≡ bytes_in (shown s buffer) (page_of e)
+    pub due_next : due ≡ true → (bytes : List ℕ) → bytes ≡ bytes_in (shown s.settings s.slots.pages buffer) (page_of e)
         → ys ≡ lay xs (page_of e * s.settings.size) (part bytes 0 (length bytes)) → from_row (i + 1) ys ≡ from_row i xs
     unfolding due_laid keep lay_each
     due_next c bytes b y = rw (y, part_whole bytes, b, seen, sym r.judged ∙ c)

@@ -3,7 +3,9 @@
 ghost use Rattle.std.specs.Prelude.{◌≡◌, []};
 ghost use Rattle.recorder.specs.Close.{close_reply};
 ghost use Rattle.recorder.specs.inner.Carried.{Closes, Carries, Carried, Ended};
+ghost use Rattle.recorder.specs.inner.Handed.{handed, filed, seen};
 ghost use Rattle.recorder.specs.Outcome.{lent, answer_with, answered};
+ghost use Rattle.recorder.specs.World.{World};
 
 use crate::plan::Plan;
 use crate::{Files, State, front, stores, tests};
@@ -20,8 +22,8 @@ fn carry_out(
     tick: Tick,
     plan: &Plan,
 ) -> u32
-    requires { Carries (lent state.now ledger.old base.old side.old buffer.now []) tick plan.now }
-    ensures { Carried (lent state.now ledger.old base.old side.old buffer.now []) result ledger.new base.new side.new }
+    requires { (w : World) × Carries (filed base.old side.old buffer.now (handed state.now.settings state.now.end state.now.entries state.now.slots.pages ledger.old w)) tick plan.now }
+    ensures { (w : World) → Carries (filed base.old side.old buffer.now (handed state.now.settings state.now.end state.now.entries state.now.slots.pages ledger.old w)) tick plan.now → Carried (filed base.old side.old buffer.now (handed state.now.settings state.now.end state.now.entries state.now.slots.pages ledger.old w)) result ledger.new base.new side.new }
 {
     let kept = renewal::settle(
         ledger,
@@ -57,8 +59,8 @@ fn closing(
     buffer: &[u8],
     tick: Tick,
 ) -> Result<u32, Refusal>
-    requires { Closes (lent state.now ledger.old base.old side.old buffer.now []) tick }
-    ensures { Ended (lent state.now ledger.old base.old side.old buffer.now []) result ledger.new base.new side.new }
+    requires { (w : World) × Closes (filed base.old side.old buffer.now (seen state.now ledger.old w)) tick }
+    ensures { (w : World) → Closes (filed base.old side.old buffer.now (seen state.now ledger.old w)) tick → Ended (filed base.old side.old buffer.now (seen state.now ledger.old w)) result ledger.new base.new side.new }
 {
     let mut plan = Plan::empty();
     plan.fill(state, ledger, tick)?;
@@ -66,7 +68,7 @@ fn closing(
 }
 
 // The open tick is closed. 3, 2, 9, 10 or 0.
-#[tactic(auto, using(crate::proofs::Ending::close_refused, crate::proofs::Ending::close_low, crate::proofs::Ending::ended_refused))]
+#[tactic(auto, using(crate::proofs::Ending::close_refused, crate::proofs::Ending::close_low))]
 pub fn close(
     state: &mut State,
     ledger: &mut [u8],

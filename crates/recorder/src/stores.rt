@@ -18,7 +18,7 @@ use units::{Page, Tick};
 #[tactic(auto, using(crate::proofs::Copying::seats))]
 fn held<'a>(state: &State, buffer: &'a [u8], page: Page) -> &'a [u8]
     requires { (Sizes.limits state.now.settings ≡ true) × (Sizes.buffer_length state.now.settings ≤ length buffer.now) }
-    ensures { result.now ≡ bytes_in (shown state.now buffer.now) page.0 }
+    ensures { result.now ≡ bytes_in (shown state.now.settings state.now.slots.pages buffer.now) page.0 }
 {
     let size = state.settings.size as usize;
     match lookup::slot_in(&state.slots.pages, state.settings.slots as usize, page) {
@@ -34,7 +34,7 @@ fn held<'a>(state: &State, buffer: &'a [u8], page: Page) -> &'a [u8]
 #[tactic(auto, using(crate::proofs::Copying::images))]
 pub fn write_images(state: &State, buffer: &[u8], side: &mut [u8], plan: &Plan) -> [u32; 16]
     requires { (Sizes.limits state.now.settings ≡ true) × (Sizes.buffer_length state.now.settings ≤ length buffer.now) × (Sizes.side_length state.now.settings ≤ length side.old) × (plan.now.count ≤ 16) × Every (λ q. q.0 < Sizes.places state.now.settings) (take plan.now.count plan.now.places) }
-    ensures { (take plan.now.count result ≡ image_sums (shown state.now buffer.now) (numbers_of plan.now.count plan.now.pages)) × (side.new ≡ images_laid (shown state.now buffer.now) plan.now.pages plan.now.places plan.now.count side.old) }
+    ensures { (take plan.now.count result ≡ image_sums (shown state.now.settings state.now.slots.pages buffer.now) (numbers_of plan.now.count plan.now.pages)) × (side.new ≡ images_laid (shown state.now.settings state.now.slots.pages buffer.now) plan.now.pages plan.now.places plan.now.count side.old) }
 {
     let mut sums = [0; 16];
     // By index: what is written through `iter_mut` is unknown to a proof.
@@ -56,7 +56,7 @@ pub fn write_images(state: &State, buffer: &[u8], side: &mut [u8], plan: &Plan) 
 #[tactic(auto, using(crate::proofs::Copying::dues))]
 pub fn write_due(state: &State, ledger: &[u8], n: usize, buffer: &[u8], base: &mut [u8], tick: Tick)
     requires { (Sizes.limits state.now.settings ≡ true) × (n * Sizes.entry_row ≤ length ledger.now) × (Sizes.buffer_length state.now.settings ≤ length buffer.now) × (Sizes.base_length state.now.settings ≤ length base.old) × Every (λ e. page_of e < state.now.settings.capacity) (entries_in n ledger.now) }
-    ensures { base.new ≡ due_laid (shown state.now buffer.now) tick (entries_in n ledger.now) base.old }
+    ensures { base.new ≡ due_laid (shown state.now.settings state.now.slots.pages buffer.now) tick (entries_in n ledger.now) base.old }
 {
     let size = state.settings.size as usize;
     let wait = state.settings.wait();

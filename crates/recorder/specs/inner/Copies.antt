@@ -6,6 +6,7 @@ use Rattle.lists.specs.Scans.{keep}
 use Rattle.units.specs.Sizes.{image_at}
 use Rattle.units.specs.declared.Page.{Page}
 use Rattle.units.specs.declared.Place.{Place}
+use Rattle.units.specs.declared.Settings.{Settings}
 use Rattle.units.specs.declared.Tick.{Tick}
 use Rattle.sidefile.specs.Encode.{image_sum}
 use Rattle.slots.specs.Table.{to_page}
@@ -13,13 +14,13 @@ use Rattle.ledger.specs.Entries.{page_of}
 use Rattle.ledger.specs.laws.Laid.{lay_each}
 use Rattle.ledger.specs.inner.Renewed.{is_due_now}
 use Rattle.ledger.specs.declared.Entry.{Entry}
+use Rattle.recorder.specs.inner.Handed.{handed}
 use Rattle.recorder.specs.Outcome.{lent}
-use Rattle.recorder.specs.World.{World, page_size, wait_of, bytes_in}
-use Rattle.recorder.specs.declared.State.{State}
+use Rattle.recorder.specs.World.{World, page_size, wait_of, bytes_in, zero_state}
 
--- the copies look at the state and the page buffer alone
-abbrev pub shown : State → List ℕ → World
-shown state buffer = lent state [] [] [] buffer []
+-- the copies look at the settings, the pages in the slots and the page buffer alone
+abbrev pub shown : Settings → List Page → List ℕ → World
+shown settings pages buffer = handed settings 0 0 pages [] (lent zero_state [] [] [] buffer [])
 
 -- the image of page j laid at place j, for each j below k; and the checksums of some pages' images
 unfoldable pub images_laid : World → List Page → List Place → ℕ → List ℕ → List ℕ

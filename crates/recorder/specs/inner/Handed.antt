@@ -1,9 +1,9 @@
--- What a plan looks at, and not the rest of a state: its contract speaks of every world with these parts. Assumes nothing.
+-- What a close looks at, and not the rest of a state: the contracts of its parts speak of every world with this. Assumes nothing.
 use Rattle.std.specs.Prelude.{ℕ, List}
 use Rattle.units.specs.declared.Page.{Page}
 use Rattle.units.specs.declared.Settings.{Settings}
 use Rattle.slots.specs.Table.{set_changed}
-use Rattle.recorder.specs.World.{World, set_slots, set_state, set_ledger}
+use Rattle.recorder.specs.World.{World, set_slots, set_state, set_ledger, set_base, set_side, set_buffer}
 use Rattle.recorder.specs.declared.State.{State}
 
 -- the world with these settings, this e, so many entries, these pages in the slots, and this ledger
@@ -23,9 +23,12 @@ handed settings end entries pages ledger w =
     })
     w)
 
--- with these flags of change
+-- with these flags of change; with these files and this page buffer
 abbrev pub flagged : List ℕ → World → World
 flagged changed w = set_state (set_slots (set_changed changed w.state.slots) w.state) w
+
+abbrev pub filed : List ℕ → List ℕ → List ℕ → World → World
+filed base side buffer w = set_base base (set_side side (set_buffer buffer w))
 
 -- with these parts of a state, and a ledger
 abbrev pub seen : State → List ℕ → World → World
